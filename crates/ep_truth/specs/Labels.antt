@@ -3,7 +3,6 @@ use Rattle.std.specs.Prelude.{◌≡◌, ℕ, ◌<◌, Bool, false, List, length
 use Rattle.std.specs.List.{list_all, list_any}
 use Rattle.ep_logic.specs.declared.formula.Node.{Node}
 use Rattle.ep_theory.specs.Kripke.{Kripke, atom_at, links_of, successors}
-use Rattle.ep_theory.specs.Walks.{IsWalk, last_of}
 use Rattle.ep_theory.specs.Tested.{is_true}
 
 -- the value of a row at a place, false past its end
@@ -38,7 +37,3 @@ knows_test S a row w = list_all (value_at row) (successors (links_of S a) w)
 -- the truth of the formula at each world
 abbrev pub IsLabel : Kripke → Node → List Bool → Type 0
 IsLabel S f row = Tells S.worlds (formula_test S f) row
-
--- every walk of the group from the world ends where the row is true
-abbrev pub AllWalks : Kripke → List Bool → List Bool → ℕ → Type 0
-AllWalks S g row w = (vs : List ℕ) → IsWalk S g w vs → IsTrue (value_at row (last_of w vs))

@@ -4,6 +4,13 @@ ghost use Rattle.ep_guide.specs.Asked.{Rose, one_more};
 use crate::guide::{Guide, View};
 use std::marker::Model;
 
+// A count stays at its greatest value.
+fn raised(count: u64) -> u64
+    ensures { result ≡ one_more count }
+{
+    count.saturating_add(1)
+}
+
 /// Scores the depth. Contracts see how often it was asked.
 #[derive(Debug, Drop)]
 pub struct ByDepth {
@@ -34,7 +41,7 @@ impl Guide for ByDepth {
         ensures asked { self.new ≡ one_more self.old }
         ensures rose { Rose self.old self.new }
     {
-        self.asked = self.asked.saturating_add(1);
+        self.asked = raised(self.asked);
         u64::from(view.depth)
     }
 
@@ -71,7 +78,7 @@ impl Guide for ByWorlds {
         ensures asked { self.new ≡ one_more self.old }
         ensures rose { Rose self.old self.new }
     {
-        self.asked = self.asked.saturating_add(1);
+        self.asked = raised(self.asked);
         u64::from(view.worlds)
     }
 
@@ -115,7 +122,7 @@ impl Guide for ByUnmet {
         ensures seen { self.new ≡ with_view self.old view.now }
         ensures rose { Rose self.old.asked self.new.asked }
     {
-        self.asked = self.asked.saturating_add(1);
+        self.asked = raised(self.asked);
         let plain = u64::from(view.unmet) * 1024 + u64::from(view.depth);
         if view.unmet < self.least {
             self.least = view.unmet;

@@ -1,8 +1,7 @@
-use Rattle.std.proofs.Common.{◌≡◌, ◌<◌, ◌++◌, ◌==◌, Some, true, false, length, slice_get, option_to_list, IsSome, sym, ◌∙◌, subst, arith, rules}
+use Rattle.std.proofs.Common.{◌≡◌, ◌<◌, Some, length, slice_get, IsSome, sym, ◌∙◌, arith}
 use Rattle.std.specs.Ordering.{nat_cmp}
-use Rattle.std.specs.Map.{lookup, set_value, remove_entry}
+use Rattle.std.specs.Map.{set_value}
 use Rattle.std.specs.BTreeMap.{is_at}
-use Rattle.ep_guide.specs.Waitings.{Queue}
 use Rattle.ep_guide.proofs.WaitingLemmas.{Leaves, leaves, pops_left, in_use_left, pops_removed, in_use_removed, empty_items, some_items, least_first}
 use Rattle.ep_guide.proofs.queues.pop.Goals as goal
 use Rattle.ep_guide.proofs.queues.pop.Goals.{After-is_empty}

@@ -1,8 +1,8 @@
-use Rattle.std.proofs.Common.{◌≡◌, ◌≢◌, [], ◌∷◌, ◌++◌, Some, None, sym, ◌∙◌, ap, subst, rules}
+use Rattle.std.proofs.Common.{◌≡◌, ◌≢◌, [], ◌∷◌, ◌++◌, None, sym, ◌∙◌, ap, subst, rules}
 use Rattle.std.specs.Ordering.{nat_cmp}
 use Rattle.std.specs.Map.{lookup, set_value}
 use Rattle.std.specs.BTreeMap.{is_at, insert_entry}
-use Rattle.ep_guide.specs.Waitings.{placed, waiting, waiting_in, AllInUse}
+use Rattle.ep_guide.specs.Waitings.{waiting_in, AllInUse}
 use Rattle.ep_guide.proofs.WaitingLemmas.{waiting_in-set, waiting_in-insert, waiting_in-same, in_use-set, in_use-insert, in_use_found, not_empty, always_on_err}
 use Rattle.ep_guide.proofs.queues.push.Goals as goal
 

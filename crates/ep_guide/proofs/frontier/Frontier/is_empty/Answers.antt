@@ -1,4 +1,4 @@
-use Rattle.std.proofs.Common.{◌≡◌, [], length, ap, ◌∙◌, sym}
+use Rattle.std.proofs.Common.{length, ap, ◌∙◌, sym}
 use Rattle.ep_guide.proofs.WaitingLemmas.{none_waits, no_entries}
 use Rattle.ep_guide.proofs.frontier.Frontier.is_empty.Goals as goal
 

@@ -13,7 +13,8 @@ pub struct Waiting {
     pub id: StateId,
 }
 
-/// The states that wait, which contracts see in the order in which they leave.
+/// The states that wait, which contracts see in the order in which they leave. A push and a pop cost the logarithm of
+/// the number of scores at which something waits.
 #[derive(Drop)]
 pub struct Frontier {
     queues: Queues,
@@ -35,6 +36,7 @@ impl Model for Frontier {
 impl Frontier {
     ghost use Rattle.ep_guide.specs.Waitings.{placed, waiting, Pops};
 
+    /// It takes no memory before the first push.
     pub fn new(alloc: Global) -> Frontier
         ensures { result ≡ [] }
     {

@@ -12,7 +12,8 @@ pub struct View {
     pub parts: u32,
 }
 
-/// Scores states, the least first. Nothing is assumed of the scores.
+/// Scores states, the least first. Nothing is assumed of the scores, and neither call takes memory. (This project's
+/// own.)
 pub trait Guide: Drop {
     /// How often a score was asked for; it stays at the greatest u64.
     ghost asked: { Self → ℕ };

@@ -86,6 +86,7 @@ impl Guide for ByWorlds {
 }
 
 /// Scores the unmet parts, then the depth, and prefers the first state with fewer unmet parts than any before.
+/// Contracts see how often it was asked and the least number of unmet parts so far.
 #[derive(Debug, Drop)]
 pub struct ByUnmet {
     asked: u64,

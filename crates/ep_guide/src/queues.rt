@@ -11,7 +11,8 @@ pub type Queues = BTreeMap<u64, VecDeque<StateId>>;
 
 pub fn push(queues: &mut Queues, alloc: Global, score: u64, id: StateId) -> Result<(), OutOfMemory>
     requires { AllInUse queues.old.entries }
-    ensures ok { OnOk result (waiting_in queues.new.entries ≡ placed (waiting score id) (waiting_in queues.old.entries)) }
+    ensures ok { OnOk result (waiting_in queues.new.entries
+        ≡ placed (waiting score id) (waiting_in queues.old.entries)) }
     ensures err { OnErr result (waiting_in queues.new.entries ≡ waiting_in queues.old.entries) }
     ensures in_use { AllInUse queues.new.entries }
 {

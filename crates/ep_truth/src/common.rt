@@ -10,7 +10,8 @@ use ep_kripke::State;
 use ep_logic::{AgentId, Agents, Bits, OutOfMemory, WorldId};
 use std::alloc::{AllocError, Global};
 
-/// Takes out of the row each world from which some walk leaves it: backwards from the worlds outside, each link once.
+// Takes out of the row each world from which some walk leaves it, backwards from the worlds outside. Each link of the
+// group is followed once.
 pub fn label_common(
     alloc: Global,
     s: &State,
@@ -20,7 +21,8 @@ pub fn label_common(
     requires group { IsTrue (is_nobody (drop s.now.agents group.now)) }
     requires long { length inner.now ≡ s.now.worlds }
     ensures long { IfOk result (λ row. length row ≡ s.now.worlds) }
-    ensures each { IfOk result (λ row. (w : ℕ) → w < s.now.worlds → IsTrue (value_at row w) ↔ AllWalks s.now group.now inner.now w) }
+    ensures each { IfOk result (λ row. (w : ℕ) → w < s.now.worlds →
+        IsTrue (value_at row w) ↔ AllWalks s.now group.now inner.now w) }
 {
     let sources = sources_of(alloc, s, group)?;
     let mut good = inner.copy(alloc)?;
@@ -31,6 +33,7 @@ pub fn label_common(
     Ok(good)
 }
 
+// For each world the worlds from which some agent of the group links to it.
 fn sources_of(alloc: Global, s: &State, group: &Agents) -> Result<Sources, OutOfMemory>
     requires { IsTrue (is_nobody (drop s.now.agents group.now)) }
     ensures valid { IsState s.now }
@@ -52,7 +55,8 @@ fn add_links(s: &State, a: AgentId, sources: &mut Sources) -> Result<(), OutOfMe
     requires long { length sources.old ≡ s.now.worlds }
     requires room { sum_by length sources.old + length (links_of s.now a.n) < 2 ^ 32 }
     ensures long { OnOk result (length sources.new ≡ s.now.worlds) }
-    ensures counted { OnOk result (sum_by length sources.new ≤ sum_by length sources.old + length (links_of s.now a.n)) }
+    ensures counted { OnOk result (sum_by length sources.new
+        ≤ sum_by length sources.old + length (links_of s.now a.n)) }
     ensures gains { OnOk result (GainsLinks s.now a.n sources.old sources.new) }
 {
     for w in 0..s.worlds() {
@@ -61,6 +65,7 @@ fn add_links(s: &State, a: AgentId, sources: &mut Sources) -> Result<(), OutOfMe
     Ok(())
 }
 
+// The worlds where the row is false.
 fn outside(alloc: Global, row: &Bits) -> Result<Vec<u32>, OutOfMemory>
     ensures { IfOk result (λ vs. vs.items ≡ numbers_where (is_out row.now) (length row.now)) }
 {

@@ -5,7 +5,7 @@ ghost use Rattle.ep_theory.specs.Fits.{Fits, fits_in};
 use ep_kripke::State;
 use ep_logic::{Formula, List, Node};
 
-/// Whether every agent and atom of the formula is one of the state.
+/// Whether every agent and atom of the formula is one of the state. It takes no memory.
 pub fn fits(s: &State, f: &Formula) -> bool
     ensures { IsTrue result ↔ Fits s.now f.now }
 {

@@ -14,11 +14,13 @@ use ep_kripke::State;
 use ep_logic::{AgentId, AtomId, Bits, Formula, List, Node, OutOfMemory, WorldId};
 use std::alloc::Global;
 
-/// The truth at each world.
+/// The truth at each world. It goes over the formula once; a node costs the worlds, and one that speaks of agents their
+/// links besides.
 pub fn label(alloc: Global, s: &State, f: &Formula) -> Result<Bits, OutOfMemory>
     requires { Fits s.now f.now }
     ensures long { IfOk result (λ row. length row ≡ s.now.worlds) }
-    ensures truth { IfOk result (λ row. (w : ℕ) → w < s.now.worlds → IsTrue (slice_index_or row w false) ↔ Truth s.now w f.now) }
+    ensures truth { IfOk result (λ row. (w : ℕ) → w < s.now.worlds →
+        IsTrue (slice_index_or row w false) ↔ Truth s.now w f.now) }
     ensures tested { IfOk result (λ row. row ≡ table (λ w. is_true s.now w f.now) s.now.worlds) }
 {
     let row = label_node(alloc, s, f.node())?;

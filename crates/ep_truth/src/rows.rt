@@ -30,7 +30,8 @@ pub fn ones(alloc: Global, len: u32) -> Result<Bits, OutOfMemory>
 pub fn or_with(row: &mut Bits, other: &Bits)
     requires { length row.old ≡ length other.now }
     ensures long { length row.new ≡ length row.old }
-    ensures each { (k : ℕ) → k < length row.old → value_at row.new k ≡ (value_at row.old k || value_at other.now k) }
+    ensures each { (k : ℕ) → k < length row.old →
+        value_at row.new k ≡ (value_at row.old k || value_at other.now k) }
 {
     for i in 0..row.len() {
         let value = row.get(i) || other.get(i);

@@ -77,7 +77,8 @@ impl Sources {
         requires world { v < length self.now }
         requires within { (w : ℕ) → IsIn w (row_at self.now v) → w < length row.old }
         ensures row { OnOk result (row.new ≡ without (row_at self.now v) row.old) }
-        ensures waiting { OnOk result (waiting.new.items ≡ waiting.old.items ++ taken (row_at self.now v) row.old) }
+        ensures waiting { OnOk result (waiting.new.items
+            ≡ waiting.old.items ++ taken (row_at self.now v) row.old) }
     {
         let mut place = self.last[v as usize];
         while place != 0 {

@@ -9,7 +9,7 @@ use ep_kripke::State;
 use ep_logic::{Formula, OutOfMemory, WorldId};
 use std::alloc::Global;
 
-/// Truth at one world.
+/// Truth at one world, by the label of the formula.
 pub fn holds(alloc: Global, s: &State, w: WorldId, f: &Formula) -> Result<bool, OutOfMemory>
     requires fits { Fits s.now f.now }
     requires world { w.n < s.now.worlds }
@@ -19,10 +19,11 @@ pub fn holds(alloc: Global, s: &State, w: WorldId, f: &Formula) -> Result<bool, 
     Ok(row.get(w.n))
 }
 
-/// Truth at every designated world.
+/// Truth at every designated world, by the label of the formula.
 pub fn holds_all(alloc: Global, s: &State, f: &Formula) -> Result<bool, OutOfMemory>
     requires { Fits s.now f.now }
-    ensures { IfOk result (λ b. IsTrue b ↔ ((w : ℕ) → IsIn w s.now.designated → Truth s.now w f.now)) }
+    ensures { IfOk result (λ b. IsTrue b
+        ↔ ((w : ℕ) → IsIn w s.now.designated → Truth s.now w f.now)) }
 {
     let row = label(alloc, s, f)?;
     Ok(is_true_at_all(s.designated(), &row))

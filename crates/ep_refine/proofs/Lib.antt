@@ -1,2 +1,4 @@
 pub mod NumberingLemmas
 pub mod PlacesLemmas
+pub mod MarkingLemmas
+pub mod ReachLemmas

@@ -1,5 +1,9 @@
 //! The reached part of a state, the part that is kept, and the classes of bisimilar worlds.
 #![tactic(auto)]
 
+mod marking;
 mod numbering;
+mod reach;
 mod signing;
+
+pub use reach::reachable;

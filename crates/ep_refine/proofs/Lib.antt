@@ -2,3 +2,4 @@ pub mod NumberingLemmas
 pub mod PlacesLemmas
 pub mod MarkingLemmas
 pub mod ReachLemmas
+pub mod RoundLemmas

@@ -29,7 +29,7 @@ numbered_more world xs after x n m h q e k =
     let z : world x ≡ 0 + n = omega arith in
     ap (map world) e ∙ map-append world xs (x ∷ []) ∙ ap₂ (λ a b. a ++ b ∷ []) h z ∙ sym (range_more 0 n) ∙ ap (range_with_len 0) r
 
-some_item : {X : Type 0} (xs : List X) (j : ℕ) → j < length xs → (x : X) × (x ≡ x)
+pub some_item : {X : Type 0} (xs : List X) (j : ℕ) → j < length xs → (x : X) × (x ≡ x)
 some_item [] j l = absurd (omega arith)
 some_item (x ∷ xs) j l = (x, refl)
 
@@ -149,3 +149,11 @@ module _ {K X : Type 0} (key : X → K) (world : X → ℕ) (keys : List K) (sta
             let x = (some_item sorted n.0 l).0 in
             let e : get_or found (world (get_or sorted n.0 x)) 0 ≡ c = found_at n.0 x l ∙ get_or_default numbers n.0 0 c n.1 ∙ n.2 in
             subst (λ k. IsIn k found) e (IsIn-at found (world (get_or sorted n.0 x)) 0 (let r = f_long in let s = within n.0 x l in omega arith))
+
+-- one more item, at the next number
+pub map_range_more : {X Y : Type 0} (f : X → Y) (g : ℕ → Y) (xs after : List X) (x : X) (n : ℕ) → map f xs ≡ map g (range_with_len 0 n) → f x ≡ g n → after ≡ xs ++ x ∷ [] → map f after ≡ map g (range_with_len 0 (n + 1))
+map_range_more f g xs after x n h q e =
+    let r : suc n ≡ n + 1 = omega arith in
+    let z : n ≡ 0 + n = omega arith in
+    ap (map f) e ∙ map-append f xs (x ∷ []) ∙ ap₂ (λ a b. a ++ b ∷ []) h (q ∙ ap g z) ∙ sym (map-append g (range_with_len 0 n) ((0 + n) ∷ []))
+    ∙ ap (map g) (sym (range_more 0 n)) ∙ ap (λ k. map g (range_with_len 0 k)) r

@@ -1,9 +1,11 @@
 //! The reached part of a state, the part that is kept, and the classes of bisimilar worlds.
 #![tactic(auto)]
 
+mod class_list;
 mod marking;
 mod numbering;
 mod reach;
 mod signing;
 
+pub use class_list::{ClassList, classes};
 pub use reach::reachable;

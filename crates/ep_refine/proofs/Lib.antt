@@ -3,3 +3,5 @@ pub mod PlacesLemmas
 pub mod MarkingLemmas
 pub mod ReachLemmas
 pub mod RoundLemmas
+pub mod RowLemmas
+pub mod ImageLemmas

@@ -1,3 +1,4 @@
 pub mod Numbering
 pub mod Marking
 pub mod Signing
+pub mod Choices

@@ -2,10 +2,12 @@
 #![tactic(auto)]
 
 mod class_list;
+mod images;
 mod marking;
 mod numbering;
 mod reach;
 mod signing;
 
 pub use class_list::{ClassList, classes};
+pub use images::image;
 pub use reach::reachable;

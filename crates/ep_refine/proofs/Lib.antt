@@ -5,3 +5,4 @@ pub mod ReachLemmas
 pub mod RoundLemmas
 pub mod RowLemmas
 pub mod ImageLemmas
+pub mod KeptLemmas

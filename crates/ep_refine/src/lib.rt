@@ -3,6 +3,7 @@
 
 mod class_list;
 mod images;
+mod kept;
 mod marking;
 mod numbering;
 mod reach;
@@ -10,4 +11,5 @@ mod signing;
 
 pub use class_list::{ClassList, classes};
 pub use images::image;
+pub use kept::restrict;
 pub use reach::reachable;

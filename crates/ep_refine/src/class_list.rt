@@ -1,6 +1,6 @@
 // The classes of bisimilar worlds.
 
-ghost use Rattle.std.specs.Prelude.{◌≡◌, ℕ, ◌<◌, ◌↔◌, length, slice_index, IfOk};
+ghost use Rattle.std.specs.Prelude.{◌≡◌, ℕ, ◌<◌, ◌≤◌, ◌↔◌, length, slice_index, IfOk};
 ghost use Rattle.ep_theory.specs.Ranks.{RanksAt};
 ghost use Rattle.ep_theory.specs.Bisimulation.{BisimilarWorlds};
 ghost use Rattle.ep_refine.specs.Numbering.{AreNumbers};
@@ -21,14 +21,14 @@ pub struct ClassList {
 }
 
 impl Model for ClassList {
-    ghost use Rattle.std.specs.Prelude.{List, ℕ};
+    ghost use Rattle.std.specs.Prelude.{List, ℕ, ◌≤◌, length};
     ghost use Rattle.ep_refine.specs.Numbering.{AreNumbers};
 
     ghost Value = { List ℕ };
 
     ghost view = { λ c. c.numbers.items };
 
-    ghost invariant = { λ c. AreNumbers c.numbers.items c.count };
+    ghost invariant = { λ c. AreNumbers c.numbers.items c.count × (c.count ≤ length c.numbers.items) };
 }
 
 impl ClassList {
@@ -42,9 +42,16 @@ impl ClassList {
 
     /// How many classes there are.
     pub fn count(&self) -> u32
-        ensures { AreNumbers self.now result }
+        ensures numbers { AreNumbers self.now result }
+        ensures few { result ≤ length self.now }
     {
         self.count
+    }
+
+    pub fn as_slice(&self) -> &[u32]
+        ensures { result.now ≡ self.now }
+    {
+        &self.numbers
     }
 }
 
@@ -63,9 +70,11 @@ pub fn classes(alloc: Global, s: &State) -> Result<ClassList, OutOfMemory>
 // Splits the classes round by round, by the ranks of the worlds and of their successors, until no class splits.
 fn refined(alloc: Global, s: &State, by_truth: Numbered) -> Result<Numbered, OutOfMemory>
     requires dense { AreNumbers by_truth.numbers.items by_truth.count }
+    requires few { by_truth.count ≤ length by_truth.numbers.items }
     requires one_each { length by_truth.numbers.items ≡ s.now.worlds }
     requires ordered { RanksAt s.now 0 (slice_index by_truth.numbers.items) }
     ensures dense { IfOk result (λ r. AreNumbers r.numbers.items r.count) }
+    ensures few { IfOk result (λ r. r.count ≤ length r.numbers.items) }
     ensures one_each { IfOk result (λ r. length r.numbers.items ≡ s.now.worlds) }
     ensures ordered { IfOk result (λ r. RanksAt s.now s.now.worlds (slice_index r.numbers.items)) }
 {

@@ -23,7 +23,8 @@ pub fn image(
     requires numbered { length numbers.now ≡ s.now.worlds }
     requires few { length chosen.now ≤ 65536 }
     requires choice { IsChoice s.now (is_marked keep.now) (slice_index numbers.now) chosen.now }
-    ensures { IfOk result (IsImage s.now (is_marked keep.now) (slice_index numbers.now)) }
+    ensures image { IfOk result (IsImage s.now (is_marked keep.now) (slice_index numbers.now)) }
+    ensures worlds { IfOk result (λ q. q.worlds ≡ length chosen.now) }
 {
     let truth = truth_of_all(alloc, s, chosen)?;
     let relations = relations_of(alloc, s, keep, numbers, chosen)?;

@@ -15,7 +15,8 @@ use std::alloc::Global;
 pub fn restrict(alloc: Global, s: &State, keep: &Bits) -> Result<State, OutOfMemory>
     requires one_each { length keep.now ≡ s.now.worlds }
     requires designated { KeepsDesignated s.now keep.now }
-    ensures { IfOk result (IsRestriction s.now keep.now) }
+    ensures restriction { IfOk result (IsRestriction s.now keep.now) }
+    ensures worlds { IfOk result (λ q. q.worlds ≡ kept_before keep.now s.now.worlds) }
 {
     let Kept { worlds, numbers } = kept_worlds(alloc, s, keep)?;
     image(alloc, s, keep, &numbers, &worlds)

@@ -1,6 +1,6 @@
 // Numbers for the worlds in the order of their keys.
 
-ghost use Rattle.std.specs.Prelude.{◌≡◌, ℕ, ◌<◌, ◌^◌, length, slice_index, slice_index_or, IfOk, MatchBool, map, nat_eq, All, vec_len};
+ghost use Rattle.std.specs.Prelude.{◌≡◌, ◌<◌, ◌≤◌, ◌^◌, length, slice_index, slice_index_or, IfOk, MatchBool, map, nat_eq, All, vec_len};
 ghost use Rattle.std.specs.List.{range_with_len, IsDistinct};
 ghost use Rattle.std.specs.List.Sorted.{IsSorted};
 ghost use Rattle.ep_refine.specs.Numbering.{AreNumbers, OrdersAs, IsAbove, IsLevel};
@@ -38,6 +38,7 @@ fn number_places<K: Ord>(alloc: Global, sorted: &[Keyed<K>]) -> Result<Numbered,
     requires sorted { IsSorted (λ x y. K.cmp x.key y.key) sorted.now }
     requires few { length sorted.now < 2 ^ 32 }
     ensures dense { IfOk result (λ n. AreNumbers n.numbers.items n.count) }
+    ensures few { IfOk result (λ n. n.count ≤ length sorted.now) }
     ensures ordered { IfOk result (λ n. OrdersAs (λ x y. K.cmp x.key y.key) sorted.now n.numbers.items) }
 {
     let mut numbers = Vec::new(alloc);
@@ -85,6 +86,7 @@ fn with_places<K: Drop>(alloc: Global, keys: Vec<K>) -> Result<Vec<Keyed<K>>, Ou
 pub fn number<K: Ord + Drop>(alloc: Global, keys: Vec<K>) -> Result<Numbered, OutOfMemory>
     requires { vec_len keys < 2 ^ 32 }
     ensures dense { IfOk result (λ n. AreNumbers n.numbers.items n.count) }
+    ensures few { IfOk result (λ n. n.count ≤ length keys.items) }
     ensures ordered { IfOk result (λ n. OrdersAs K.cmp keys.items n.numbers.items) }
 {
     let mut sorted = with_places(alloc, keys)?;

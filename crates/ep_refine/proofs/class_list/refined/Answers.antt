@@ -32,6 +32,7 @@ returns-then-eq-clause-ordered c =
 pub loop-round-preserved : goal.loop-round-preserved
 loop-round-preserved c = record {
   dense = c.in_ok-next.ensures.dense;
+  few = let f = c.in_ok-next.ensures.few in let o = c.in_ok-next.ensures.ordered.one_each in omega (arith, f, o);
   one_each = c.in_ok-next.ensures.ordered.one_each ∙ signed_long node_of (signature c.args.s.now (slice_index c.deref.result.now)) c.in_ok-sign_all.field-0.items c.args.s.now.worlds c.in_ok-sign_all.ensures;
   ordered = next_ranks _ node_of by_nodes c.args.s.now c.worlds-round-end.ensures.valid c.loop-round._round (slice_index c.deref.result.now)
       (subst (λ (l : List ℕ). RanksAt c.args.s.now c.loop-round._round (slice_index l)) (sym c.deref.ensures.value) c.loop-round.invariant.ordered)

@@ -25,7 +25,11 @@ image-requires-clause-choice c =
     subst (IsChoice c.args.s.now (is_marked c.args.keep.now) (slice_index c.deref.result.now)) (sym (c.deref-2.ensures.value ∙ c.in_ok-worlds.ensures.worlds))
     (kept_choice c.args.keep.now c.args.s.now c.kept_worlds.ensures.valid c.deref.result.now (c.deref.ensures.value ∙ c.in_ok-worlds.ensures.numbers) c.requires.designated)
 
-pub returns : goal.returns
-returns c = IfOk-weaker c.image.result (IsImage c.args.s.now (is_marked c.args.keep.now) (slice_index c.deref.result.now)) (IsRestriction c.args.s.now c.args.keep.now)
+pub returns-clause-restriction : goal.returns-clause-restriction
+returns-clause-restriction c = IfOk-weaker c.image.result (IsImage c.args.s.now (is_marked c.args.keep.now) (slice_index c.deref.result.now)) (IsRestriction c.args.s.now c.args.keep.now)
     (λ q m. restriction c.args.s.now q c.kept_worlds.ensures.valid c.args.keep.now c.deref.result.now (c.deref.ensures.value ∙ c.in_ok-worlds.ensures.numbers) m)
-    c.image.ensures
+    c.image.ensures.image
+
+pub returns-clause-worlds : goal.returns-clause-worlds
+returns-clause-worlds c = IfOk-weaker c.image.result (λ q. q.worlds ≡ length c.deref-2.result.now) (λ q. q.worlds ≡ kept_before c.args.keep.now c.args.s.now.worlds)
+    (λ q e. e ∙ ap length (c.deref-2.ensures.value ∙ c.in_ok-worlds.ensures.worlds)) c.image.ensures.worlds

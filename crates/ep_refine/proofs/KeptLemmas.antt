@@ -154,3 +154,7 @@ numbers_more keep numbers after count n h q e = sym (map_id after) ∙ map_range
     map_id : (xs : List ℕ) → map (λ x. x) xs ≡ xs
     map_id [] = refl
     map_id (x ∷ xs) = ap (λ l. x ∷ l) (map_id xs)
+
+-- kept worlds have different numbers
+pub kept_apart : (keep : List Bool) (n w v : ℕ) → w < n → v < n → is_marked keep w ≡ true → is_marked keep v ≡ true → kept_before keep w ≡ kept_before keep v → w ≡ v
+kept_apart keep n w v a b h k e = sym (stands keep n w a h).1 ∙ ap (λ i. get_or (kept_below keep n) i 0) e ∙ (stands keep n v b k).1

@@ -1,6 +1,7 @@
 // The classes of bisimilar worlds.
 
 ghost use Rattle.std.specs.Prelude.{◌≡◌, ℕ, ◌<◌, ◌≤◌, ◌↔◌, length, slice_index, IfOk};
+ghost use Rattle.ep_theory.specs.Kripke.{IsState};
 ghost use Rattle.ep_theory.specs.Ranks.{RanksAt};
 ghost use Rattle.ep_theory.specs.Bisimulation.{BisimilarWorlds};
 ghost use Rattle.ep_refine.specs.Numbering.{AreNumbers};
@@ -61,6 +62,7 @@ pub fn classes(alloc: Global, s: &State) -> Result<ClassList, OutOfMemory>
     ensures ordered { IfOk result (λ c. RanksAt s.now s.now.worlds (slice_index c)) }
     ensures bisimilar { IfOk result (λ c. (w v : ℕ) → w < s.now.worlds → v < s.now.worlds →
         (slice_index c w ≡ slice_index c v) ↔ BisimilarWorlds s.now w s.now v) }
+    ensures valid { IsState s.now }
 {
     let by_truth = number(alloc, truth_rows(alloc, s)?)?;
     let Numbered { numbers, count } = refined(alloc, s, by_truth)?;

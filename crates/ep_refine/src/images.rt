@@ -25,6 +25,7 @@ pub fn image(
     requires choice { IsChoice s.now (is_marked keep.now) (slice_index numbers.now) chosen.now }
     ensures image { IfOk result (IsImage s.now (is_marked keep.now) (slice_index numbers.now)) }
     ensures worlds { IfOk result (λ q. q.worlds ≡ length chosen.now) }
+    ensures valid { IfOk result IsState }
 {
     let truth = truth_of_all(alloc, s, chosen)?;
     let relations = relations_of(alloc, s, keep, numbers, chosen)?;

@@ -17,6 +17,7 @@ pub fn restrict(alloc: Global, s: &State, keep: &Bits) -> Result<State, OutOfMem
     requires designated { KeepsDesignated s.now keep.now }
     ensures restriction { IfOk result (IsRestriction s.now keep.now) }
     ensures worlds { IfOk result (λ q. q.worlds ≡ kept_before keep.now s.now.worlds) }
+    ensures valid { IfOk result IsState }
 {
     let Kept { worlds, numbers } = kept_worlds(alloc, s, keep)?;
     image(alloc, s, keep, &numbers, &worlds)

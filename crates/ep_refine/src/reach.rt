@@ -2,6 +2,7 @@
 
 ghost use Rattle.std.specs.Prelude.{◌≡◌, ℕ, ◌<◌, ◌↔◌, length, IfOk, IsTrue};
 ghost use Rattle.ep_theory.specs.Canonical.{Reached};
+ghost use Rattle.ep_theory.specs.Kripke.{IsState};
 ghost use Rattle.ep_refine.specs.Marking.{is_marked};
 
 use crate::marking::{mark, mark_targets};
@@ -14,6 +15,7 @@ pub fn reachable(alloc: Global, s: &State) -> Result<Bits, OutOfMemory>
     ensures one_each { IfOk result (λ row. length row ≡ s.now.worlds) }
     ensures reached { IfOk result (λ row. (w : ℕ) → w < s.now.worlds →
         IsTrue (is_marked row w) ↔ Reached s.now w) }
+    ensures valid { IsState s.now }
 {
     let mut marked = Bits::zeros(alloc, s.worlds())?;
     let mut open = Vec::new(alloc);

@@ -1,0 +1,7 @@
+//! Canonical states: the contraction of a state, and its bytes.
+#![tactic(auto)]
+
+mod canon;
+mod quotient;
+
+pub use canon::{Canon, contract};

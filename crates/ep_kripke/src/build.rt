@@ -54,12 +54,13 @@ fn pairs_of(alloc: Global, agent: u32, links: &[Link]) -> Result<Vec<(u32, u32)>
 fn joined(alloc: Global, agent: u32, links: &[Link]) -> Result<Vec<(u32, u32)>, OutOfMemory>
     ensures { IfOk result (λ pairs. pairs.items ≡ joined_pairs links.now agent) }
 {
-    let pairs = links
-        .iter()
-        .filter(|link| link.agent.n == agent)
-        .map(|link| (link.from.n, link.to.n))
-        .collect(alloc)?;
-    Ok(pairs)
+    Ok(
+        links
+            .iter()
+            .filter(|link| link.agent.n == agent)
+            .map(|link| (link.from.n, link.to.n))
+            .collect(alloc)?,
+    )
 }
 
 // Pairs in rising order, as a row for each world.

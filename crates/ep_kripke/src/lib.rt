@@ -5,6 +5,8 @@ mod build;
 mod parts;
 mod rows;
 mod state;
+#[cfg(test)]
+mod tests;
 
 pub use parts::{Link, StateError, StateParts};
 pub use rows::Rows;

@@ -13,8 +13,9 @@ use ep_logic::{AgentId, AtomId, Bits, List, OutOfMemory, WorldId};
 use std::alloc::Global;
 use std::marker::Model;
 
-/// A finite Kripke state with several designated worlds, which contracts see as plain data.
-/// It has at most 65,536 worlds, 8 agents and 256 atoms, and fewer than 2^32 links.
+/// A finite Kripke state, which contracts see as plain data. It has at most 65,536 worlds, 8 agents and 256 atoms, and
+/// fewer than 2^32 links. The source is van Ditmarsch, van der Hoek and Kooi, *Dynamic Epistemic Logic*, chapter 2; a
+/// set of designated worlds, never empty, is this project's own.
 #[derive(Debug, Drop)]
 pub struct State {
     agents: u32,
@@ -68,7 +69,8 @@ impl State {
         Ok(State::from_rows(agents, atoms, truth, relations, designated))
     }
 
-    /// The state with these rows: for each agent, for each world, its successors in rising order.
+    /// The state with these rows: for each agent, for each world, its successors in rising order. It takes no memory
+    /// and sorts nothing: this project's own addition, for states that are made from states.
     pub fn from_rows(
         agents: u32,
         atoms: u32,
@@ -137,7 +139,7 @@ impl State {
         row.get(p.n)
     }
 
-    /// The worlds to which the agent links the world, in rising order.
+    /// The worlds to which the agent links the world, in rising order, without memory: this project's own addition.
     pub fn targets(&self, a: AgentId, w: WorldId) -> &[u32]
         requires agent { a.n < self.now.agents }
         requires world { w.n < self.now.worlds }
@@ -177,7 +179,7 @@ impl State {
         Ok(List::from_vec(world_ids(alloc, self.targets(a, w))?))
     }
 
-    /// The designated worlds, in rising order.
+    /// The designated worlds, in rising order: this project's own addition.
     pub fn designated(&self) -> &[u32]
         ensures value { result.now ≡ self.now.designated }
         ensures valid { IsState self.now }

@@ -230,8 +230,8 @@ module _ (S : Kripke) (s : IsState S) (keep : ℕ → Bool) (number : ℕ → �
           let e : get_or (image_rows keep number chosen pairs) p.0 [] ≡ kept_numbers keep number (successors pairs (get_or chosen p.0 0)) = get_or-map (λ w. kept_numbers keep number (successors pairs w)) chosen p.0 0 [] b in
           let f = from_kept keep number p.1 (successors pairs (get_or chosen p.0 0)) (subst (IsIn p.1) e r.1) in
           let u = at_All (λ p. (p.0 < S.worlds) × (p.1 < S.worlds)) (get_or chosen p.0 0, f.0) pairs
-              (at_All (λ l. AllByRecursion (λ p. (p.0 < S.worlds) × (p.1 < S.worlds)) l) pairs S.links s.within i)
-              (from_successors (get_or chosen p.0 0) f.0 pairs f.1) in
+          (at_All (λ l. AllByRecursion (λ p. (p.0 < S.worlds) × (p.1 < S.worlds)) l) pairs S.links s.within i)
+          (from_successors (get_or chosen p.0 0) f.0 pairs f.1) in
           let c = place_of f.0 u.1 f.2 in
           ((omega arith), (let g = f.3 in omega arith))
 

@@ -8,7 +8,10 @@ use Rattle.ep_theory.specs.Rising.{IsIn}
 use Rattle.ep_theory.specs.Kripke.{Kripke, IsState, links_of, truth_of}
 use Rattle.ep_theory.specs.Image.{IsImage}
 use Rattle.ep_theory.proofs.Counting.{last_or_before}
-use Rattle.ep_theory.proofs.Filters.{from_filter, All-at}
+use Rattle.std.proofs.lemmas.Bool.{false≢true}
+use Rattle.std.proofs.lemmas.List.{get_or_default}
+use Rattle.ep_theory.proofs.Bridges.{Contains-from_in}
+use Rattle.ep_theory.proofs.Filters.{from_filter, All-at, IsIn-at}
 use Rattle.ep_theory.proofs.Lists.{at_All, All-from_each}
 use Rattle.ep_theory.proofs.Places.{from_range}
 use Rattle.ep_theory.proofs.Unique.{links_within}
@@ -158,3 +161,14 @@ numbers_more keep numbers after count n h q e = sym (map_id after) ∙ map_range
 -- kept worlds have different numbers
 pub kept_apart : (keep : List Bool) (n w v : ℕ) → w < n → v < n → is_marked keep w ≡ true → is_marked keep v ≡ true → kept_before keep w ≡ kept_before keep v → w ≡ v
 kept_apart keep n w v a b h k e = sym (stands keep n w a h).1 ∙ ap (λ i. get_or (kept_below keep n) i 0) e ∙ (stands keep n v b k).1
+
+-- whether a designated world is kept
+pub some_kept : (S : Kripke) (keep : List Bool) (ds : List ℕ) (i : ℕ) → ds ≡ S.designated → i < length ds → is_marked keep (get_or ds i 0) ≡ true → KeepsDesignated S keep
+some_kept S keep ds i e l h = (get_or ds i 0, subst (IsIn (get_or ds i 0)) e (IsIn-at ds i 0 l), h)
+
+pub none_kept : (S : Kripke) (keep : List Bool) (i : ℕ) → length S.designated ≤ i → ((k : ℕ) → k < i → is_marked keep (slice_index S.designated k) ≡ false) → ¬ KeepsDesignated S keep
+none_kept S keep i l h d =
+    let c = Contains-from_in d.0 S.designated d.1 in
+    let f : is_marked keep (get_or S.designated c.0 0) ≡ false = h c.0 (let k = c.1 in omega arith) in
+    let e : get_or S.designated c.0 0 ≡ d.0 = get_or_default S.designated c.0 0 d.0 c.1 ∙ c.2 in
+    false≢true (sym f ∙ ap (is_marked keep) e ∙ d.2)

@@ -98,7 +98,7 @@ numbers_next {X} C total xs numbers count i h less = record {
         let e : nat_cmp (get_or numbers j 0) (get_or numbers (i - 1) 0) ≡ C (get_or xs j d) (get_or xs (i - 1) d) = h.ordered j (i - 1) d l (omega arith) in
         let q : get_or numbers (i - 1) 0 + 1 ≡ count = h.last (omega arith) in
         let f : C (get_or xs j d) (get_or xs i d) ≡ Less = after (nat_cmp (get_or numbers j 0) (get_or numbers (i - 1) 0)) (get_or xs j d) (get_or xs (i - 1) d) (get_or xs i d) (sym e)
-            (low (get_or numbers j 0) (get_or numbers (i - 1) 0) (omega arith)) (less d (omega arith)) in
+        (low (get_or numbers j 0) (get_or numbers (i - 1) 0) (omega arith)) (less d (omega arith)) in
         sym (nat_cmp_is (get_or numbers j 0) count Less b) ∙ sym f
 
 pub numbers_same : {X : Type 0} (C : X → X → Ordering) → IsTotalOrder C → (xs : List X) (numbers : List ℕ) (count i : ℕ) → NumbersFirst C xs numbers count i → 0 < i →

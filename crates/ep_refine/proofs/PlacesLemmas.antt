@@ -51,7 +51,7 @@ module _ {X : Type 0} (world : X → ℕ) (places : List X) where
       ∙ ap (λ k. get_or numbers k 0) (sym q))
       (λ (m : j < i).
       let far : world (get_or places j d) ≢ world (get_or places i x) =
-          λ q. apart h j i d m b (q ∙ ap world (get_or_default places i x d b)) in
+      λ q. apart h j i d m b (q ∙ ap world (get_or_default places i x d b)) in
       get_or-set_other found (world (get_or places i x)) (world (get_or places j d)) (get_or numbers i 0) 0 far ∙ put j d m)
       (last_or_before j i (omega arith))
 

@@ -1,6 +1,6 @@
 // The part of a state that is kept.
 
-ghost use Rattle.std.specs.Prelude.{◌≡◌, length, map, IfOk};
+ghost use Rattle.std.specs.Prelude.{◌≡◌, ◌↔◌, length, map, IfOk, IsTrue};
 ghost use Rattle.std.specs.List.{range_with_len};
 ghost use Rattle.ep_theory.specs.Kripke.{IsState};
 ghost use Rattle.ep_kripke.specs.States.{IsBounded};
@@ -10,6 +10,19 @@ use crate::images::image;
 use ep_kripke::State;
 use ep_logic::{Bits, OutOfMemory};
 use std::alloc::Global;
+
+/// Whether some designated world is kept. `keep` has a value for each world.
+pub fn keeps_designated(s: &State, keep: &Bits) -> bool
+    requires { length keep.now ≡ s.now.worlds }
+    ensures { IsTrue result ↔ KeepsDesignated s.now keep.now }
+{
+    for w in s.designated() {
+        if keep.get(*w) {
+            return true;
+        }
+    }
+    false
+}
 
 /// The kept worlds in their order, with the links among them. `keep` has a value for each world.
 pub fn restrict(alloc: Global, s: &State, keep: &Bits) -> Result<State, OutOfMemory>

@@ -11,5 +11,8 @@ mod signing;
 
 pub use class_list::{ClassList, classes};
 pub use images::image;
-pub use kept::restrict;
+pub use kept::{keeps_designated, restrict};
 pub use reach::reachable;
+
+#[cfg(test)]
+mod tests;

@@ -21,8 +21,9 @@ loop-w-preserved c =
     let keep = c.args.keep.now in
     record {
       worlds = elim c.if-get.branch [
-        then-get+in_ok-push-2 w ↦ ap (λ v. v.items) w.worlds-is ∙ w.in_ok-push-2.ensures.items ∙ ap (λ l. l ++ c.loop-w.w ∷ []) c.loop-w.invariant.worlds ∙ sym (kept_more keep c.loop-w.w (sym c.get.ensures ∙ w.if-get.true)) |
-        else-get w ↦ ap (λ v. v.items) w.worlds-is ∙ c.loop-w.invariant.worlds ∙ sym (kept_same keep c.loop-w.w (sym c.get.ensures ∙ w.if-get.false)) ];
+        | then-get+in_ok-push-2 w ↦ ap (λ v. v.items) w.worlds-is ∙ w.in_ok-push-2.ensures.items ∙ ap (λ l. l ++ c.loop-w.w ∷ []) c.loop-w.invariant.worlds ∙ sym (kept_more keep c.loop-w.w (sym c.get.ensures ∙ w.if-get.true))
+        | else-get w ↦ ap (λ v. v.items) w.worlds-is ∙ c.loop-w.invariant.worlds ∙ sym (kept_same keep c.loop-w.w (sym c.get.ensures ∙ w.if-get.false))
+      ];
       numbers = numbers_more keep c.loop-w.numbers.items c.push.new.self.items c.len.result c.loop-w.w c.loop-w.invariant.numbers
           (let long = ap length c.loop-w.invariant.worlds in let k = c.loop-w.worlds.ok.0 in let e = c.len.ensures in omega (arith, long, k, e)) c.in_ok-push.ensures.items;
     }

@@ -20,16 +20,17 @@ loop-w-preserved c =
     let b = c.requires i 0 c.loop-w-test.true in
     let within : x < length c.loop-w.marked = omega (arith, b, l) in
     elim c.if-not-get.branch [
-      then-not-get+in_ok-push w ↦
+      | then-not-get+in_ok-push w ↦
           marks_more ws i x c.args.marked.now c.loop-w.marked c.if-not-get.marked c.args.open.now.items c.loop-w.open.items c.if-not-get.open.items c.loop-w-test.true refl c.loop-w.invariant
           (marks_as (λ v. v ≡ x) c.loop-w.marked (set c.loop-w.marked x true) c.if-not-get.marked c.loop-w.open.items (c.loop-w.open.items ++ x ∷ []) c.if-not-get.open.items
           (sym (w.marked-is ∙ w.set.ensures)) (sym (ap (λ v. v.items) w.open-is ∙ w.in_ok-push.ensures.items))
-          (marks_new c.loop-w.marked c.loop-w.open.items x within (sym c.get.ensures ∙ w.if-not-get.true))) |
-      else-not-get w ↦
+          (marks_new c.loop-w.marked c.loop-w.open.items x within (sym c.get.ensures ∙ w.if-not-get.true)))
+      | else-not-get w ↦
           marks_more ws i x c.args.marked.now c.loop-w.marked c.if-not-get.marked c.args.open.now.items c.loop-w.open.items c.if-not-get.open.items c.loop-w-test.true refl c.loop-w.invariant
           (marks_as (λ v. v ≡ x) c.loop-w.marked c.loop-w.marked c.if-not-get.marked c.loop-w.open.items c.loop-w.open.items c.if-not-get.open.items
           (sym w.marked-is) (sym (ap (λ v. v.items) w.open-is))
-          (marks_old c.loop-w.marked c.loop-w.open.items x (sym c.get.ensures ∙ w.if-not-get.false))) ]
+          (marks_old c.loop-w.marked c.loop-w.open.items x (sym c.get.ensures ∙ w.if-not-get.false)))
+    ]
 
 pub returns : goal.returns
 returns c =

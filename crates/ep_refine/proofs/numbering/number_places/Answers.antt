@@ -14,10 +14,11 @@ loop-i-preserved g c =
     let xs = c.args.sorted.now in
     let i = c.loop-i.i in
     elim c.if-is_new.branch [
-      then-is_new w ↦ turn_above C total xs c.loop-i.numbers.items c.push.new.self.items c.loop-i.count c.if-is_new.count i c.loop-i.invariant
-          (subst (λ b. MatchBool b (IsAbove C xs i) (IsLevel C xs i)) w.if-is_new.true c.is_new.ensures) w.count-is c.in_ok-push.ensures.items |
-      else-is_new w ↦ turn_level C total xs c.loop-i.numbers.items c.push.new.self.items c.loop-i.count c.if-is_new.count i c.loop-i.invariant
-          (subst (λ b. MatchBool b (IsAbove C xs i) (IsLevel C xs i)) w.if-is_new.false c.is_new.ensures) w.count-is c.in_ok-push.ensures.items ]
+      | then-is_new w ↦ turn_above C total xs c.loop-i.numbers.items c.push.new.self.items c.loop-i.count c.if-is_new.count i c.loop-i.invariant
+          (subst (λ b. MatchBool b (IsAbove C xs i) (IsLevel C xs i)) w.if-is_new.true c.is_new.ensures) w.count-is c.in_ok-push.ensures.items
+      | else-is_new w ↦ turn_level C total xs c.loop-i.numbers.items c.push.new.self.items c.loop-i.count c.if-is_new.count i c.loop-i.invariant
+          (subst (λ b. MatchBool b (IsAbove C xs i) (IsLevel C xs i)) w.if-is_new.false c.is_new.ensures) w.count-is c.in_ok-push.ensures.items
+    ]
 
 pub returns-clause-ordered : goal.returns-clause-ordered
 returns-clause-ordered g c =

@@ -8,7 +8,7 @@ use Rattle.ep_refine.proofs.numbering.with_places.Goals as goal
 pub loop-key-preserved : goal.loop-key-preserved
 loop-key-preserved g c =
     let before : length c.loop-key.items.items ≡ length c.loop-key.yielded =
-        sym (length-map c.loop-key.items.items (λ (x : Keyed g.row.K.Denot). x.key)) ∙ ap length c.loop-key.invariant.keys in
+    sym (length-map c.loop-key.items.items (λ (x : Keyed g.row.K.Denot). x.key)) ∙ ap length c.loop-key.invariant.keys in
     record {
       can = search rules;
       ends = search rules;

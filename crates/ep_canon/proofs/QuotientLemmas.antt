@@ -36,14 +36,14 @@ pub put_one : (classes chosen : List ℕ) (i : ℕ) → i < length classes → s
 put_one classes chosen i l b h v m = ⊎_elim
     (λ (q : slice_index classes v ≡ slice_index classes i).
     let e : slice_index (set chosen (slice_index classes i) i) (slice_index classes v) ≡ i =
-        ap (slice_index (set chosen (slice_index classes i) i)) q ∙ get_or-set_same chosen (slice_index classes i) i 0 b in
+    ap (slice_index (set chosen (slice_index classes i) i)) q ∙ get_or-set_same chosen (slice_index classes i) i 0 b in
     record { world = (omega arith); own = ap (slice_index classes) e ∙ sym q })
     (λ (n : slice_index classes v ≢ slice_index classes i). ⊎_elim
     (λ (q : v ≡ i). absurd (n (ap (slice_index classes) q)))
     (λ (k : v < i).
     let s = h v k in
     let e : slice_index (set chosen (slice_index classes i) i) (slice_index classes v) ≡ slice_index chosen (slice_index classes v) =
-        get_or-set_other chosen (slice_index classes i) (slice_index classes v) i 0 n in
+    get_or-set_other chosen (slice_index classes i) (slice_index classes v) i 0 n in
     record { world = (let w = s.world in omega arith); own = ap (slice_index classes) e ∙ s.own })
     (last_or_before v i (omega arith)))
     (same_or_not (slice_index classes v) (slice_index classes i))

@@ -5,3 +5,6 @@ mod canon;
 mod quotient;
 
 pub use canon::{Canon, contract};
+
+#[cfg(test)]
+mod tests;

@@ -1,0 +1,74 @@
+// Canonical states and contraction.
+
+ghost use Rattle.std.specs.Prelude.{◌≡◌, ℕ, ◌≤◌, ◌↔◌, IfOk};
+ghost use Rattle.ep_logic.specs.declared.formula.Node.{Node};
+ghost use Rattle.ep_theory.specs.Rising.{IsIn};
+ghost use Rattle.ep_theory.specs.Kripke.{Kripke, IsState};
+ghost use Rattle.ep_theory.specs.Truth.{Truth};
+ghost use Rattle.ep_theory.specs.Canonical.{IsCanonical, Contracts};
+
+use crate::quotient::quotient;
+use ep_kripke::State;
+use ep_logic::OutOfMemory;
+use ep_refine::{classes, reachable, restrict};
+use std::alloc::Global;
+use std::marker::Model;
+
+/// A canonical state of at most 4,096 worlds.
+#[derive(Debug, Drop)]
+pub struct Canon {
+    state: State,
+}
+
+impl Model for Canon {
+    ghost use Rattle.std.specs.Prelude.{◌≤◌};
+    ghost use Rattle.ep_theory.specs.Kripke.{Kripke};
+    ghost use Rattle.ep_theory.specs.Canonical.{IsCanonical};
+
+    ghost Value = { Kripke };
+
+    ghost view = { λ c. c.state };
+
+    ghost invariant = { λ c. IsCanonical c.state × (c.state.worlds ≤ 4096) };
+}
+
+impl Canon {
+    pub fn state(&self) -> &State
+        ensures value { result.now ≡ self.now }
+        ensures canonical { IsCanonical self.now }
+        ensures small { self.now.worlds ≤ 4096 }
+    {
+        &self.state
+    }
+
+    pub fn copy(&self, alloc: Global) -> Result<Canon, OutOfMemory>
+        ensures { IfOk result (λ c. c ≡ self.now) }
+    {
+        Ok(Canon {
+            state: self.state.copy(alloc)?,
+        })
+    }
+}
+
+/// The contraction of the state: the one canonical state that is bisimilar to it.
+pub fn contract(alloc: Global, s: &State) -> Result<Canon, OutOfMemory>
+    requires { s.now.worlds ≤ 4096 }
+    ensures contraction { IfOk result (Contracts s.now) }
+    ensures valid { IfOk result IsState }
+
+    // No other canonical state is bisimilar to it.
+    ensures only { IfOk result (λ c. (D : Kripke) → IsState D → Contracts s.now D → D ≡ c) }
+    ensures idempotent { IfOk result (λ c. IsCanonical s.now → c ≡ s.now) }
+
+    // The same formulas are true at all, and at some, designated worlds.
+    ensures all { IfOk result (λ c. (f : Node) →
+        ((w : ℕ) → IsIn w s.now.designated → Truth s.now w f) ↔ ((v : ℕ) → IsIn v c.designated → Truth c v f)) }
+    ensures some { IfOk result (λ c. (f : Node) →
+        ((w : ℕ) × IsIn w s.now.designated × Truth s.now w f) ↔ ((v : ℕ) × IsIn v c.designated × Truth c v f)) }
+{
+    let reached = reachable(alloc, s)?;
+    let part = restrict(alloc, s, &reached)?;
+    let numbers = classes(alloc, &part)?;
+    let state = quotient(alloc, &part, &numbers)?;
+    Ok(Canon { state })
+}

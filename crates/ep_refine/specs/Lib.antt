@@ -1,0 +1,5 @@
+pub mod Numbering
+pub mod Marking
+pub mod Signing
+pub mod Choices
+pub mod Kept

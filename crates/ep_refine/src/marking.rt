@@ -1,0 +1,39 @@
+// Worlds that are marked, each of which is opened once.
+
+ghost use Rattle.std.specs.Prelude.{◌≡◌, ◌<◌, All, length, OnOk};
+ghost use Rattle.ep_theory.specs.Rising.{IsIn};
+ghost use Rattle.ep_refine.specs.Marking.{Marks, IsTarget};
+
+use ep_kripke::State;
+use ep_logic::{AgentId, Bits, OutOfMemory, WorldId};
+
+/// Marks the worlds, and opens those that were not marked.
+pub fn mark(marked: &mut Bits, open: &mut Vec<u32>, worlds: &[u32]) -> Result<(), OutOfMemory>
+    requires { All (λ w. w < length marked.old) worlds.now }
+    ensures { OnOk result (Marks (λ v. IsIn v worlds.now) marked.old marked.new open.old.items open.new.items) }
+{
+    for w in worlds {
+        if !marked.get(*w) {
+            marked.set(*w, true);
+            open.push(*w)?;
+        }
+    }
+    Ok(())
+}
+
+/// Marks the worlds to which some agent links `w`.
+pub fn mark_targets(
+    s: &State,
+    w: WorldId,
+    marked: &mut Bits,
+    open: &mut Vec<u32>,
+) -> Result<(), OutOfMemory>
+    requires world { w.n < s.now.worlds }
+    requires one_each { length marked.old ≡ s.now.worlds }
+    ensures { OnOk result (Marks (IsTarget s.now w.n) marked.old marked.new open.old.items open.new.items) }
+{
+    for a in 0..s.agents() {
+        mark(marked, open, s.targets(AgentId { n: a }, w))?;
+    }
+    Ok(())
+}

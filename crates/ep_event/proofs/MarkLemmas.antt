@@ -83,7 +83,7 @@ rows_are_linked n a links square are =
 abbrev pub no_link : EventLink
 no_link = record { agent = record { n = 0 }; from = record { n = 0 }; to = record { n = 0 } }
 
-at_place : {A : Type 0} (P : A → Type 0) (xs : List A) (i : ℕ) (d : A) → i < length xs → AllByRecursion P xs → P (get_or xs i d)
+pub at_place : {A : Type 0} (P : A → Type 0) (xs : List A) (i : ℕ) (d : A) → i < length xs → AllByRecursion P xs → P (get_or xs i d)
 at_place P [] i d h all = absurd (omega arith)
 at_place P (x ∷ xs) zero d h all = all.0
 at_place P (x ∷ xs) (suc i) d h all = at_place P xs i d (omega arith) all.1

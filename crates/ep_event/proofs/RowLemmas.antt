@@ -3,9 +3,12 @@ use Rattle.std.proofs.Common.{◌≡◌, ◌≢◌, ℕ, zero, suc, ◌<◌, ◌
 use Rattle.std.proofs.lemmas.Bool.{cases_lt, ne_eqb}
 use Rattle.std.proofs.lemmas.List.{map-append, get_or-map, length-map}
 use Rattle.std.proofs.lemmas.List.Elements.{filter-append}
-use Rattle.ep_event.specs.Relations.{row_pairs, all_pairs}
+use Rattle.ep_event.specs.declared.parts.EventParts.{EventParts}
+use Rattle.ep_event.specs.Relations.{row_pairs, all_pairs, action_of, IsSound}
+use Rattle.ep_event.proofs.MarkLemmas.{at_place}
 use Rattle.ep_theory.specs.Numbers.{numbers_where, pairs_within, table}
 use Rattle.ep_theory.specs.Kripke.{successors}
+use Rattle.ep_theory.specs.Events.{event_links}
 
 -- the pairs of rows that a test chose are the pairs that it chooses
 pub row_pairs-chosen : (rows : List (List ℕ)) (r : ℕ → ℕ → Bool) (n m : ℕ) → ((i : ℕ) → i < m → get_or rows i [] ≡ numbers_where (r i) n) → row_pairs rows m ≡ pairs_within r n m
@@ -50,6 +53,13 @@ pub pairs_at : (relations : List (List (List ℕ))) (a : ℕ) → get_or (map al
 pairs_at [] a = refl
 pairs_at (rows ∷ relations) zero = refl
 pairs_at (rows ∷ relations) (suc a) = pairs_at relations a
+
+-- what the slices of an action show
+pub targets_at : (events : List EventParts) (relations : List (List (List ℕ))) (designated : List ℕ) → IsSound events relations designated → (a e : ℕ) → a < length relations → e < length events →
+    successors (event_links (action_of events relations designated) a) e ≡ get_or (get_or relations a []) e []
+targets_at events relations designated sound a e h k =
+    let long : length (get_or relations a []) ≡ length events = at_place (λ (rows : List (List ℕ)). length rows ≡ length events) relations a [] h sound.rows in
+    ap (λ pairs. successors pairs e) (pairs_at relations a) ∙ successors-all_pairs (get_or relations a []) e (omega (arith, k, long))
 
 pub map-table : {X Y : Type 0} (f : X → Y) (g : ℕ → X) (n : ℕ) → map f (table g n) ≡ table (λ i. f (g i)) n
 map-table f g zero = refl

@@ -8,7 +8,7 @@ ghost use Rattle.ep_theory.specs.FourActions.{announce, private, sense, assign};
 ghost use Rattle.ep_event.specs.Built.{set_of, built};
 ghost use Rattle.ep_event.specs.Refusals.{Answers, refusal_of, repeated_atom};
 
-use crate::marks::{marked, named};
+use crate::marks::named;
 use crate::numbers::Numbers;
 use crate::parts::{ActionParts, Assign, EventParts};
 use crate::refusal::{ActionError, check, first_repeat};
@@ -62,8 +62,7 @@ impl Action {
         } = parts;
         let count = events.as_slice().len() as u32;
         let relations = relations(alloc, agents, count, links.as_slice())?;
-        let row = named(alloc, count, designated.as_slice())?;
-        let designated = marked(alloc, &row)?;
+        let designated = named(alloc, count, designated.as_slice())?;
         Ok(Action {
             events,
             relations,
@@ -116,7 +115,7 @@ impl Action {
         requires small { node_count f < 131072 }
         ensures { IfOk result (λ a. a ≡ sense agents f group) }
     {
-        let no = Formula::not(alloc, f.copy(alloc)?).map_err(|_| OutOfMemory {})?;
+        let no = negation(alloc, &f)?;
         Ok(Action {
             events: two_events(alloc, f, no)?,
             relations: told_apart_by(alloc, agents, &group, &[0, 1])?,
@@ -238,13 +237,24 @@ impl Action {
 }
 
 ghost use Rattle.std.specs.Prelude.{[], ◌∷◌};
-ghost use Rattle.ep_logic.specs.declared.formula.Node.{Node};
-ghost use Rattle.ep_event.specs.declared.parts.EventParts.{EventParts};
+ghost use Rattle.ep_logic.specs.declared.formula.Node.TheVariants.{Not};
 
 fn contains(numbers: &[u32], number: u32) -> bool
     ensures { IsTrue result ↔ IsIn number numbers.now }
 {
     numbers.contains(&number)
+}
+
+// The negation of a formula whose negation is one.
+fn negation(alloc: Global, f: &Formula) -> Result<Formula, OutOfMemory>
+    requires shallow { depth_of f.now < 128 }
+    requires small { node_count f.now < 131072 }
+    ensures { IfOk result (λ no. no ≡ Not f.now) }
+{
+    match Formula::not(alloc, f.copy(alloc)?) {
+        Ok(no) => Ok(no),
+        Err(_) => Err(OutOfMemory {}),
+    }
 }
 
 fn one_event(alloc: Global, pre: Formula, sets: List<Assign>) -> Result<List<EventParts>, OutOfMemory>

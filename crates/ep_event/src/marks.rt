@@ -24,7 +24,7 @@ pub fn marked(alloc: Global, row: &Bits) -> Result<Numbers, OutOfMemory>
 }
 
 // True at the events that are named.
-pub fn named(alloc: Global, events: u32, ids: &[EventId]) -> Result<Bits, OutOfMemory>
+fn marks_of(alloc: Global, events: u32, ids: &[EventId]) -> Result<Bits, OutOfMemory>
     requires { AllByRecursion (λ d. d.n < events) ids.now }
     ensures long { IfOk result (λ row. length row ≡ events) }
     ensures each { IfOk result (λ row. (e : ℕ) → e < events → slice_index_or row e false ≡ has_event ids.now e) }
@@ -34,6 +34,15 @@ pub fn named(alloc: Global, events: u32, ids: &[EventId]) -> Result<Bits, OutOfM
         row.set(id.n, true);
     }
     Ok(row)
+}
+
+// The events that are named, each once and in rising order.
+pub fn named(alloc: Global, events: u32, ids: &[EventId]) -> Result<Numbers, OutOfMemory>
+    requires { AllByRecursion (λ d. d.n < events) ids.now }
+    ensures { IfOk result (λ n. n ≡ numbers_where (has_event ids.now) events) }
+{
+    let row = marks_of(alloc, events, ids)?;
+    marked(alloc, &row)
 }
 
 // A square that is false everywhere.

@@ -1,6 +1,6 @@
 use Rattle.std.proofs.Common.{◌≡◌, ℕ, ◌<◌, false, length, take, slice_index_or}
 use Rattle.ep_event.specs.Built.{has_event}
-use Rattle.ep_event.proofs.marks.named.Given as goal
+use Rattle.ep_event.proofs.marks.marks_of.Given as goal
 
 abbrev pub invariant-loop-id : goal.invariant-loop-id
 invariant-loop-id l = record {

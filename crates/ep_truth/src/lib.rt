@@ -11,3 +11,6 @@ mod truths;
 pub use fit::fits;
 pub use labels::label;
 pub use truths::{holds, holds_all};
+
+#[cfg(test)]
+mod tests;

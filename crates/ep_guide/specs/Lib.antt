@@ -1,0 +1,3 @@
+pub mod Asked
+pub mod Scores
+pub mod Waitings

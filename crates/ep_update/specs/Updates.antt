@@ -1,0 +1,33 @@
+-- What the calls of an update answer.
+use Rattle.std.specs.Prelude.{◌≡◌, ◌<◌, ◌≤◌, Some}
+use Rattle.ep_theory.specs.Kripke.{Kripke, IsState}
+use Rattle.ep_theory.specs.Fits.{link_count}
+use Rattle.ep_theory.specs.Events.{EventModel}
+use Rattle.ep_theory.specs.Product.{IsApplicable, stuck_world, product_of}
+use Rattle.ep_theory.specs.Bisimulation.{Bisimilar}
+use Rattle.ep_update.specs.declared.update.Size.{Size}
+use Rattle.ep_update.specs.declared.update.UpdateError.{UpdateError}
+use Rattle.ep_update.specs.declared.update.UpdateError.TheVariants.{Inapplicable, TooManyWorlds, TooManyLinks, OutOfMemory}
+
+-- the state is no larger
+pub record IsWithin (size : Size) (S : Kripke) : Type 0 where
+  pub worlds : S.worlds ≤ size.worlds
+  pub links : link_count S ≤ size.links
+
+-- when each refusal comes, with the exact numbers of the product
+abbrev pub IsRefusal : Kripke → EventModel → Size → UpdateError → Type 0
+IsRefusal S A size (Inapplicable w) = stuck_world S A ≡ Some w
+IsRefusal S A size (TooManyWorlds n) = IsApplicable S A × (n ≡ (product_of S A).worlds) × (size.worlds < n)
+IsRefusal S A size (TooManyLinks n) = IsApplicable S A × ((product_of S A).worlds ≤ size.worlds) × (n ≡ link_count (product_of S A)) × (size.links < n)
+IsRefusal S A size OutOfMemory = Unit {0}
+
+-- the result is right for each state that is bisimilar: the action is applicable there, and the products are bisimilar
+abbrev pub IsProductUpTo : Kripke → EventModel → Kripke → Type 0
+IsProductUpTo S A T = (R : Kripke) → IsState R → Bisimilar S R → IsApplicable R A × Bisimilar T (product_of R A)
+
+-- where the action is refused as inapplicable, it is not applicable in any state that is bisimilar
+abbrev pub IsRefusalUpTo : Kripke → EventModel → UpdateError → Type 0
+IsRefusalUpTo S A (Inapplicable w) = (R : Kripke) → Bisimilar S R → ¬ IsApplicable R A
+IsRefusalUpTo S A (TooManyWorlds n) = Unit {0}
+IsRefusalUpTo S A (TooManyLinks n) = Unit {0}
+IsRefusalUpTo S A OutOfMemory = Unit {0}

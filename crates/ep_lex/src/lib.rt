@@ -1,0 +1,10 @@
+//! The tokens of a text.
+#![tactic(auto)]
+
+pub mod lex;
+pub mod token;
+pub mod token_list;
+
+pub use lex::{LexError, tokens};
+pub use token::{PieceKind, Token, TokenKind};
+pub use token_list::TokenList;

@@ -1,0 +1,51 @@
+ghost use Rattle.std.specs.Prelude.{◌≡◌, ◌<◌, ◌≤◌, length, slice_get, Some};
+ghost use Rattle.ep_lex.specs.Tokens.{line_at};
+
+use crate::token::Token;
+use ep_logic::List;
+use std::marker::Model;
+
+/// The tokens of a text in order, at most 262,144, and the line of its end.
+#[derive(Debug, Drop)]
+pub struct TokenList {
+    items: Vec<Token>,
+    last_line: u32,
+}
+
+impl Model for TokenList {
+    ghost use Rattle.std.specs.Prelude.{◌≤◌, length};
+    ghost use Rattle.ep_lex.specs.Tokens.{Lexed};
+
+    ghost Value = { Lexed };
+
+    ghost view = { λ t. record { tokens = t.items.items; end_line = t.last_line } };
+
+    ghost invariant = { λ t. length t.items.items ≤ 262144 };
+}
+
+impl TokenList {
+    pub fn count(&self) -> u32
+        ensures value { result ≡ length self.now.tokens }
+        ensures bound { length self.now.tokens ≤ 262144 }
+    {
+        self.items.len() as u32
+    }
+
+    pub fn token(&self, i: u32) -> Token
+        requires { i < length self.now.tokens }
+        ensures { slice_get self.now.tokens i ≡ Some result }
+    {
+        self.items[i as usize]
+    }
+
+    /// The line of a token, or of the end of the text where `i` is the count.
+    pub fn line(&self, i: u32) -> u32
+        requires { i ≤ length self.now.tokens }
+        ensures { result ≡ line_at self.now i }
+    {
+        match self.items.get(i as usize) {
+            Some(token) => token.line,
+            None => self.last_line,
+        }
+    }
+}

@@ -1,8 +1,10 @@
 //! Trees of the task language, their reader and their layout.
 #![tactic(auto)]
 
+pub mod terminal;
 pub mod tree;
 
+pub use terminal::Terminal;
 pub use tree::{
     AtomTree, BodyTree, CallTree, EventTree, FluentTree, FormulaTree, GroupTree, InitTree,
     LinkTree, Name, ObjectTree, PairTree, PairsTree, ParamTree, PlanTree, SchemaTree, SeesTree,

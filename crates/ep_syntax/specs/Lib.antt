@@ -4,3 +4,5 @@ pub mod Spelling
 pub mod Formed
 pub mod Bare
 pub mod Grammar
+pub mod Reading
+pub mod Gives

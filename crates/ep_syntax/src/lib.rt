@@ -1,9 +1,12 @@
 //! Trees of the task language, their reader and their layout.
 #![tactic(auto)]
 
+mod error;
+mod reader;
 pub mod terminal;
 pub mod tree;
 
+pub use error::SyntaxError;
 pub use terminal::Terminal;
 pub use tree::{
     AtomTree, BodyTree, CallTree, EventTree, FluentTree, FormulaTree, GroupTree, InitTree,

@@ -70,28 +70,25 @@ name n ts = if name_begins ts then name_at n ts else Err (Syntax n)
 abbrev pub front : {A : Type 0} → A × List A → List A
 front p = p.0 ∷ p.1
 
-abbrev pub second_front : {A : Type 0} → (ℕ × A) × List A → List A
-second_front p = p.0.1 ∷ p.1
-
--- { item }, where an item begins as the test says
-unfoldable pub each_by : {A : Type 0} → ℕ → (List Token → Bool) → Reader A → Reader (List A)
+-- { item }, where an item begins with a token that passes the test
+unfoldable pub each_by : {A : Type 0} → ℕ → (Token → Bool) → Reader A → Reader (List A)
 each_by zero test item n ts = Ok ([], n, ts)
 each_by (suc fuel) test item n ts =
-    if test ts then made front (seq (item n ts) (each_by fuel test item)) else Ok ([], n, ts)
+    if heads test ts then made front (seq (item n ts) (each_by fuel test item)) else Ok ([], n, ts)
 
-abbrev pub each : {A : Type 0} → (List Token → Bool) → Reader A → Reader (List A)
+abbrev pub each : {A : Type 0} → (Token → Bool) → Reader A → Reader (List A)
 each test item n ts = each_by (length ts) test item n ts
 
-abbrev pub after_key : {A : Type 0} → ℕ × A → A
-after_key p = p.1
+abbrev pub second : {A : Type 0} → ℕ × A → A
+second p = p.1
 
 -- t item
 abbrev pub behind_key : {A : Type 0} → Terminal → Reader A → Reader A
-behind_key t item n ts = made after_key (seq (key t n ts) item)
+behind_key t item n ts = made second (seq (key t n ts) item)
 
 -- item { t item }
 abbrev pub listed : {A : Type 0} → Terminal → Reader A → Reader (List A)
-listed t item n ts = made front (seq (item n ts) (each (begins t) (behind_key t item)))
+listed t item n ts = made front (seq (item n ts) (each (is t) (behind_key t item)))
 
 -- nothing is left
 abbrev pub end : Reader (Unit {0})

@@ -2,6 +2,7 @@
 #![tactic(auto)]
 
 mod error;
+mod parse;
 mod reader;
 pub mod terminal;
 pub mod tree;

@@ -1,2 +1,4 @@
 pub mod Sources
 pub mod Loops
+pub mod MarkLists
+pub mod Laws

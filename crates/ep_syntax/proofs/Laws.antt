@@ -181,9 +181,9 @@ module _ {A B : Type 0} (g : Grammar A) (h : Grammar B) (G F : Follow) (n : ℕ)
   paired_outcome a m rest r (Err (TooDeep k)) o = paired_deep a m rest r k o
 
   -- `c` is some value that may stand second
-  pub seq_outcome : (r : Read A) → Outcome g G n ts r → (q : Reader B) → ((m : ℕ) (rest : List Token) → Outcome h F m rest (q m rest))
+  pub seq_outcome : (r : Read A) → Outcome g G n ts r → (q : Reader B) → ((x : A × ℕ × List Token) → r ≡ Ok x → Outcome h F x.1 x.2 (q x.1 x.2))
       → (c : B) → h.IsFormed c → Outcome (both g h) F n ts (seq r q)
-  seq_outcome (Ok x) o q next c f = paired_outcome x.0 x.1 x.2 o (q x.1 x.2) (next x.1 x.2)
+  seq_outcome (Ok x) o q next c f = paired_outcome x.0 x.1 x.2 o (q x.1 x.2) (next x refl)
   seq_outcome (Err (Syntax m)) o q next c f = record {
     front = o.front;
     back = o.back;

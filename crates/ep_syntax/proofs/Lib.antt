@@ -2,3 +2,5 @@ pub mod Sources
 pub mod Loops
 pub mod MarkLists
 pub mod Laws
+pub mod Readers
+pub mod ListLaws

@@ -149,7 +149,7 @@ module _ {A B : Type 0} (g : Grammar A) (h : Grammar B) (G F : Follow) (n : ℕ)
       → IsSame g a p.0 × Agree (length o.front) rest (texts (h.marks p.1) ++ more)
   second_of a m rest r k o p more f s agree =
       first_same a m rest r (length o.front) (omega (arith, o.within)) p more f s
-        (subst (λ k. Agree k ts (texts ((both g h).marks p) ++ more)) (length-behind (g.marks a) o.front) agree)
+      (subst (λ k. Agree k ts (texts ((both g h).marks p) ++ more)) (length-behind (g.marks a) o.front) agree)
 
   paired_deep : (a : A) (m : ℕ) (rest : List Token) → IsRead g G n ts a m rest → (k : ℕ) → IsTooDeep h F m rest k → IsTooDeep (both g h) F n ts k
   paired_deep a m rest r k o = record {
@@ -331,5 +331,5 @@ pub far_deep : {A : Type 0} (g : Grammar A) (F : Follow) (n : ℕ) (ts : List To
     → (b : A) (after : List Token) → g.IsFormed b → F after → Agree j ts (texts (g.marks b) ++ after) → ((i : ℕ) → i < j → Opens i (g.marks b) → ⊥) → j < length o.front
 far_deep g F n ts m j o b after f s a shut =
     ⊎_elim (λ lt. lt)
-      (λ le. absurd (shut o.index (omega (arith, o.within)) (o.opens b after f s (Agree-less (length o.front) j ts _ (omega arith) a))))
-      (cases_lt j (length o.front))
+    (λ le. absurd (shut o.index (omega (arith, o.within)) (o.opens b after f s (Agree-less (length o.front) j ts _ (omega arith) a))))
+    (cases_lt j (length o.front))

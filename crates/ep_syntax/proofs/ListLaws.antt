@@ -65,15 +65,15 @@ module _ {A : Type 0} (test : Token → Bool) (g : Grammar A) (G F : Follow) (it
   each_reads zero n (t ∷ ts) l = absurd (omega arith)
   each_reads (suc fuel) n ts l = either (heads test ts)
       (λ e. made_by front_makes
-        (record {
-          holds = seq_outcome g (each_of g) G F n ts follow (item n ts) (p.reads n ts).holds (each_by fuel test item)
-              (λ x i.
-              let r = got g G n ts (item n ts) (p.reads n ts).holds x i in
-              (each_reads fuel x.1 x.2
-                (omega (arith, ap length r.text, length-append (texts (g.marks x.0)) x.2, length-texts (g.marks x.0), nonempty test (g.marks x.0) (starts x.0 [] r.formed)))).holds)
-              [] tt;
-        })
-        (some_back ts e))
+      (record {
+        holds = seq_outcome g (each_of g) G F n ts follow (item n ts) (p.reads n ts).holds (each_by fuel test item)
+            (λ x i.
+            let r = got g G n ts (item n ts) (p.reads n ts).holds x i in
+            (each_reads fuel x.1 x.2
+            (omega (arith, ap length r.text, length-append (texts (g.marks x.0)) x.2, length-texts (g.marks x.0), nonempty test (g.marks x.0) (starts x.0 [] r.formed)))).holds)
+            [] tt;
+      })
+      (some_back ts e))
       (λ e. none_read n ts e)
 
   pub each_part : Part (each_of g) F (each test item)

@@ -1,5 +1,5 @@
 -- What a method of the reader does, as a reader on lists says.
-use Rattle.std.specs.Prelude.{◌≡◌, ℕ, ◌+◌, ◌<◌, ◌≤◌, Bool, IsTrue, ◌&&◌, nat_le, List, length, drop, Result, Ok, Err}
+use Rattle.std.specs.Prelude.{◌≡◌, ℕ, ◌+◌, ◌≤◌, Bool, IsTrue, ◌&&◌, nat_le, List, length, drop, Result, Ok, Err}
 use Rattle.std.specs.List.{list_all}
 use Rattle.ep_lex.specs.declared.token.Token.{Token as Lexeme}
 use Rattle.ep_lex.specs.declared.token.PieceKind.TheVariants as piece
@@ -35,7 +35,3 @@ Stops error.OutOfMemory read = Unit {0}
 abbrev pub Gives : {A : Type 0} → Reader A → Place → Result A SyntaxError → Place → Type 0
 Gives p old (Ok a) new = p old.0 old.1 ≡ Ok (a, new.0, new.1)
 Gives p old (Err e) new = Stops e (p old.0 old.1)
-
--- the item leaves fewer tokens
-abbrev pub Shrinks : {A : Type 0} → Reader A → Type 0
-Shrinks {A} p = (n : ℕ) (ts : List Token) (x : A × ℕ × List Token) → p n ts ≡ Ok x → length x.2 < length ts

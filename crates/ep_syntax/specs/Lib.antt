@@ -5,4 +5,5 @@ pub mod Formed
 pub mod Bare
 pub mod Grammar
 pub mod Reading
+pub mod FormulaReading
 pub mod Gives

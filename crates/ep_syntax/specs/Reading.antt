@@ -90,6 +90,13 @@ behind_key t item n ts = made second (seq (key t n ts) item)
 abbrev pub listed : {A : Type 0} → Terminal → Reader A → Reader (List A)
 listed t item n ts = made front (seq (item n ts) (each (is t) (behind_key t item)))
 
+abbrev pub inner_of : {A : Type 0} → (ℕ × A) × ℕ → A
+inner_of p = p.0.1
+
+-- left item right
+abbrev pub within : {A : Type 0} → Terminal → Reader A → Terminal → Reader A
+within left item right n ts = made inner_of (seq (seq (key left n ts) item) (key right))
+
 -- [ item { t item } ], where an item begins with a token that passes the test
 abbrev pub any_listed : {A : Type 0} → (Token → Bool) → Terminal → Reader A → Reader (List A)
 any_listed test t item n ts = if heads test ts then listed t item n ts else Ok ([], n, ts)

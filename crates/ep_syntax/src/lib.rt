@@ -1,6 +1,7 @@
 //! Trees of the task language, their reader and their layout.
 #![tactic(auto)]
 
+mod atom;
 mod error;
 mod parse;
 mod reader;

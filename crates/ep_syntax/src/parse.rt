@@ -1,8 +1,8 @@
 //! Lists of values that each begin in one way.
 
 ghost use Rattle.std.specs.Prelude.{◌≡◌, ◌∷◌};
-ghost use Rattle.ep_syntax.specs.Gives.{Gives, Shrinks};
-ghost use Rattle.ep_syntax.specs.Reading.{each, listed, behind_key};
+ghost use Rattle.ep_syntax.specs.Gives.{Gives};
+ghost use Rattle.ep_syntax.specs.Reading.{each, listed, any_listed, behind_key};
 ghost use Rattle.ep_syntax.specs.declared.terminal.Terminal.TheVariants as the;
 
 use crate::error::SyntaxError;
@@ -26,8 +26,6 @@ pub trait Parse: Drop {
 
     fn parse(reader: &mut Reader, alloc: Global) -> Result<Self, SyntaxError>
         ensures { Gives reads reader.old result reader.new };
-
-    ghost shrinks: { Shrinks reads };
 }
 
 /// `{ item }`
@@ -35,7 +33,10 @@ pub fn each_of<T: Parse>(reader: &mut Reader, alloc: Global) -> Result<List<T>, 
     ensures { Gives (each T.starts T.reads) reader.old result reader.new }
 {
     let mut items = List::new(alloc);
-    while T::begins(reader) {
+    for _ in 0..reader.left() {
+        if !T::begins(reader) {
+            break;
+        }
         let item = T::parse(reader, alloc)?;
         items.push(item)?;
     }
@@ -56,9 +57,23 @@ pub fn one_or_more<T: Parse>(reader: &mut Reader, alloc: Global) -> Result<List<
     let first = T::parse(reader, alloc)?;
     let mut items = List::new(alloc);
     items.push(first)?;
-    while reader.sees(Terminal::Comma) {
+    for _ in 0..reader.left() {
+        if !reader.sees(Terminal::Comma) {
+            break;
+        }
         let item = behind_comma(reader, alloc)?;
         items.push(item)?;
     }
     Ok(items)
+}
+
+/// `[ item { ',' item } ]`
+pub fn zero_or_more<T: Parse>(reader: &mut Reader, alloc: Global) -> Result<List<T>, SyntaxError>
+    ensures { Gives (any_listed T.starts the.Comma T.reads) reader.old result reader.new }
+{
+    if T::begins(reader) {
+        one_or_more(reader, alloc)
+    } else {
+        Ok(List::new(alloc))
+    }
 }

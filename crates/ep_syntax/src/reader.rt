@@ -98,6 +98,13 @@ impl<'a> Reader<'a> {
         self.at
     }
 
+    /// How many tokens are left.
+    pub fn left(&self) -> u32
+        ensures { result ≡ length self.now.1 }
+    {
+        self.count - self.at
+    }
+
     pub fn sees_at(&self, by: u32, terminal: Terminal) -> bool
         requires { by ≤ 2 }
         ensures { result ≡ reading.begins terminal (drop by self.now.1) }

@@ -4,3 +4,4 @@ pub mod MarkLists
 pub mod Laws
 pub mod Readers
 pub mod ListLaws
+pub mod FormulaSteps

@@ -3,6 +3,7 @@
 
 mod atom;
 mod error;
+mod formula;
 mod parse;
 mod reader;
 pub mod terminal;

@@ -93,7 +93,8 @@ impl<'a> Reader<'a> {
 
     /// The place of the next token.
     pub fn place(&self) -> u32
-        ensures { result ≡ self.now.0 }
+        ensures value { result ≡ self.now.0 }
+        ensures bound { result ≤ 262144 }
     {
         self.at
     }
@@ -103,6 +104,16 @@ impl<'a> Reader<'a> {
         ensures { result ≡ length self.now.1 }
     {
         self.count - self.at
+    }
+
+    /// The bytes of the next token.
+    pub fn text(&self) -> Option<&'a [u8]>
+        ensures { option_map (λ text. text.now) result ≡ reading.first_token self.now.1 }
+    {
+        match self.ahead(0) {
+            Some((_, text)) => Some(text),
+            None => None,
+        }
     }
 
     pub fn sees_at(&self, by: u32, terminal: Terminal) -> bool

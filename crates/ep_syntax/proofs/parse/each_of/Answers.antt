@@ -22,8 +22,8 @@ loop-preserved g c =
 pub returns : goal.returns
 returns g c =
     elim c.loop-test.branch [
-      else-loop-test w ↦ going_end g.T.Parse.starts g.T.Parse.reads c.loop.invariant (omega (arith, w.loop-test.false))
-    | then-loop-test+then-not-begins w ↦
-      let none : heads g.T.Parse.starts c.loop.reader.1 ≡ false = cc in
-      going_stop g.T.Parse.starts g.T.Parse.reads c.loop.invariant none
+      | else-loop-test w ↦ going_end g.T.Parse.starts g.T.Parse.reads c.loop.invariant (omega (arith, w.loop-test.false))
+      | then-loop-test+then-not-begins w ↦
+          let none : heads g.T.Parse.starts c.loop.reader.1 ≡ false = cc in
+          going_stop g.T.Parse.starts g.T.Parse.reads c.loop.invariant none
     ]

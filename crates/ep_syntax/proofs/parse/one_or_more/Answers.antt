@@ -24,8 +24,8 @@ loop-preserved g c =
 pub returns : goal.returns
 returns g c =
     elim c.loop-test.branch [
-      else-loop-test w ↦ going_end (is the.Comma) (behind_key the.Comma g.T.Parse.reads) c.loop.invariant (omega (arith, w.loop-test.false))
-    | then-loop-test+then-not-sees w ↦
-      let none : begins the.Comma c.loop.reader.1 ≡ false = cc in
-      going_stop (is the.Comma) (behind_key the.Comma g.T.Parse.reads) c.loop.invariant none
+      | else-loop-test w ↦ going_end (is the.Comma) (behind_key the.Comma g.T.Parse.reads) c.loop.invariant (omega (arith, w.loop-test.false))
+      | then-loop-test+then-not-sees w ↦
+          let none : begins the.Comma c.loop.reader.1 ≡ false = cc in
+          going_stop (is the.Comma) (behind_key the.Comma g.T.Parse.reads) c.loop.invariant none
     ]

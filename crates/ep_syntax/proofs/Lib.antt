@@ -6,3 +6,6 @@ pub mod Readers
 pub mod ListLaws
 pub mod FormulaSteps
 pub mod AtomLaws
+pub mod TreeEquations
+pub mod Layers
+pub mod ParenLaws

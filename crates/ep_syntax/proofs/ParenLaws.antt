@@ -11,19 +11,20 @@ use Rattle.ep_syntax.specs.declared.tree.FormulaTree.TheOpen as layer
 use Rattle.ep_syntax.specs.declared.tree.FormulaTree.TheVariants as tree
 use Rattle.ep_syntax.specs.Bare.{bare_formula}
 use Rattle.ep_syntax.specs.Formed.{Each, OneOrMore, formed_formula, formed_parts, is_true, IsFormedFormula, IsFormedName}
-use Rattle.ep_syntax.specs.FormulaReading.{Tail, closed, anded, ored, some_behind, joined, tail, with_tail, inside_of, inside, equal_of, equality, is_equality, follows, deep_name, opened}
+use Rattle.ep_syntax.specs.FormulaReading.{Tail, closed, anded, ored, some_behind, joined, tail, with_tail, inside_of, inside, equal_of, equality, is_equality, follows, deep_name, opened, starter_of}
 use Rattle.ep_syntax.specs.Grammar.{Grammar}
 use Rattle.ep_syntax.specs.Marks.{Mark, fixed, opening, named, texts, nesting_at}
 use Rattle.ep_syntax.specs.Reading.{Token, Fault, Syntax, TooDeep, Read, Reader, seq, made, is, begins, heads, key, name, name_begins, each, front, behind_key}
 use Rattle.ep_syntax.specs.Spelling.{behind, between, formula_at}
 use Rattle.ep_syntax.specs.Spelling as spell
 use Rattle.ep_syntax.specs.Terminals.{text_of, is_name}
-use Rattle.ep_syntax.proofs.AtomLaws.{NotOpen}
+use Rattle.ep_syntax.specs.declared.tree.AtomTree.{AtomTree}
+use Rattle.ep_syntax.proofs.AtomLaws.{NotOpen, and_true}
 use Rattle.ep_syntax.proofs.Laws.{Follow, IsRead, IsRefused, IsTooDeep, IsSame, Outcome, both, both_then, Makes, Made}
-use Rattle.ep_syntax.proofs.Layers.{Layer, formulas_at, first_text, rest_marks, rest_texts, marks-out, texts-out, formed-out, formed-roll, formula_long, lead, lead-first, name-first, some_formula}
+use Rattle.ep_syntax.proofs.Layers.{Layer, formulas_at, first_text, rest_marks, rest_texts, marks-out, texts-out, formed-out, formed-roll, formula_long, lead, lead-first, name-first, starter-text, some_formula}
 use Rattle.ep_syntax.proofs.ListLaws.{Agree-heads, behind_of, behind-flat_map, each_of, behind_part, rest_part, follow_rest}
 use Rattle.ep_syntax.proofs.MarkLists.{Agree, IsShallowTo}
-use Rattle.ep_syntax.proofs.Readers.{Reads, Part, Any, Lacks, Next, pair, then, made_by, made_all, made_far, Witness, either, fewer, less, less_part, is-true, is-text_of, next_lacks, plain, plain_reads, plain_part, names_one, name_part, some_name}
+use Rattle.ep_syntax.proofs.Readers.{opened_reads, Reads, Part, Any, Lacks, Next, pair, then, made_by, made_all, made_far, Witness, either, fewer, less, less_part, is-true, is-text_of, next_lacks, plain, plain_reads, plain_part, names_one, name_part, some_name}
 use Rattle.ep_syntax.proofs.Readers as reader
 use Rattle.ep_syntax.proofs.Sources.{both_true}
 use Rattle.ep_syntax.proofs.TreeEquations as eq
@@ -216,3 +217,117 @@ module _ {A : Type 0} {g : Grammar A} {F : Follow} {n : ℕ} {x : Token} {ts : L
   made_from_first back = made_by makes o (λ b more fb s a.
       let h : Agree 1 (x ∷ ts) (first_text (out-FormulaTree b) ∷ (rest_texts k (out-FormulaTree b) ++ more)) = subst (λ z. Agree 1 (x ∷ ts) (z ++ more)) (texts-out k b) a in
       subst (λ z. Made g f z) (roll-out-FormulaTree b) (back (out-FormulaTree b) (formed-out b fb) h.0))
+
+-- ---- a name behind the parenthesis
+
+-- what stands behind the name may follow a formula in parentheses, or begins its arguments
+record Followed (us : List Token) : Type 0 where
+  pub terminal : Terminal
+  pub follow : follows (text_of terminal) ≡ true
+  pub no_equals : is the.Equals (text_of terminal) ≡ false
+  pub begins_so : (test : Token → Bool) → heads test us ≡ test (text_of terminal)
+
+behind_arguments : (t : Terminal) → follows (text_of t) ≡ true → is the.Equals (text_of t) ≡ false → (ns : List Name) (us rest : List Token)
+    → Agree 1 us (texts (spell.arguments ns) ++ text_of t ∷ rest) → Followed us
+behind_arguments t f e [] us rest a = record { terminal = t; follow = f; no_equals = e; begins_so = λ test. Agree-heads test us _ a }
+behind_arguments t f e (n ∷ ns) us rest a = record { terminal = the.OpenParen; follow = refl; no_equals = refl; begins_so = λ test. Agree-heads test us _ a }
+
+behind_atom : (k : ℕ) (t : Terminal) → follows (text_of t) ≡ true → is the.Equals (text_of t) ≡ false → (l : Layer) (a : AtomTree) → l ≡ layer.Atom a → (us rest : List Token)
+    → Agree 1 us (rest_texts k l ++ text_of t ∷ rest) → Followed us
+unfolding rest_marks
+behind_atom k t f e l a d us rest h = behind_arguments t f e a.args us rest (subst (λ z. Agree 1 us (rest_texts k z ++ text_of t ∷ rest)) d h)
+
+-- a formula that begins with a name, and the terminal behind it
+behind_formula : (k : ℕ) (t : Terminal) → follows (text_of t) ≡ true → is the.Equals (text_of t) ≡ false → (i : FormulaTree) (u : Token) (us rest : List Token) → is_name u ≡ true
+    → Agree 2 (u ∷ us) (texts (formula_at i k) ++ text_of t ∷ rest) → Followed us
+behind_formula k t f e i u us rest d a =
+    let h : Agree 2 (u ∷ us) (first_text (out-FormulaTree i) ∷ (rest_texts k (out-FormulaTree i) ++ text_of t ∷ rest)) = subst (λ z. Agree 2 (u ∷ us) (z ++ text_of t ∷ rest)) (texts-out k i) a in
+    let q = name-first (out-FormulaTree i) u d h.0 in
+    behind_atom k t f e (out-FormulaTree i) q.0 q.1 us rest h.1
+
+behind_parts : (k : ℕ) (t : Terminal) → follows (text_of t) ≡ true → is the.Equals (text_of t) ≡ false → (ps : List FormulaTree) → formed_parts 2 (map formed_formula ps) ≡ true
+    → (u : Token) (us more : List Token) → is_name u ≡ true → Agree 2 (u ∷ us) (texts (between t (map (λ p. formula_at p k) ps) ++ fixed the.CloseParen ∷ []) ++ more) → Followed us
+behind_parts k t f e [] g u us more d a = absurd (false≢true g)
+behind_parts k t f e (p ∷ []) g u us more d a = absurd (false≢true g)
+behind_parts k t f e (p ∷ q ∷ qs) g u us more d a =
+    let marks = λ (p : FormulaTree). formula_at p k in
+    let s1 = both_then (formula_at p k ++ behind t (map marks (q ∷ qs))) (fixed the.CloseParen ∷ []) more in
+    let s2 = both_then (formula_at p k) (behind t (map marks (q ∷ qs))) (text_of the.CloseParen ∷ more) in
+    behind_formula k t f e p u us _ d (subst (λ z. Agree 2 (u ∷ us) z) (s1 ∙ s2) a)
+
+-- a layer that begins with a parenthesis and a name: an equality, or not
+followed : (k : ℕ) (l : Layer) → IsFormedFormula (roll-FormulaTree l) → lead l ≡ Some the.OpenParen → (u : Token) (us more : List Token) → is_name u ≡ true
+    → Agree 2 (u ∷ us) (rest_texts k l ++ more) → heads (is the.Equals) us ≡ false → Followed us
+unfolding lead rest_marks
+followed k (layer.Paren t i) f e u us more d a no_equals =
+    behind_formula (suc k) the.CloseParen refl refl i u us more d (subst (λ z. Agree 2 (u ∷ us) z) (both_then (formula_at i (suc k)) (fixed the.CloseParen ∷ []) more) a)
+followed k (layer.And t ps) f e u us more d a no_equals = behind_parts (suc k) the.And refl refl ps (formed-roll (layer.And t ps) f) u us more d a
+followed k (layer.Or t ps) f e u us more d a no_equals = behind_parts (suc k) the.Or refl refl ps (formed-roll (layer.Or t ps) f) u us more d a
+followed k (layer.Equal t l r) f e u us more d a no_equals = absurd (false≢true (sym no_equals ∙ Agree-heads (is the.Equals) us _ a.1))
+followed k _ f e u us more d a no_equals = absurd (cc)
+
+-- ---- equalities
+
+abbrev equals_at : ℕ → Grammar ((((ℕ × Name) × ℕ) × Name) × ℕ)
+equals_at k = both (both (both (both (reader.opened k the.OpenParen) names_one) (plain the.Equals)) names_one) (plain the.CloseParen)
+
+equal_makes : (k : ℕ) → Makes (equals_at k) (formulas_at k) equal_of
+equal_makes k = record {
+  marks = λ a _. eq.formula_at-Equal a.0.0.0.0 a.0.0.0.1 a.0.1 k;
+  formed = λ a f. eq.formed-Equal a.0.0.0.0 a.0.0.0.1 a.0.1 ∙ and_true _ _ f.0.0.0.1 f.0.1;
+  bare = λ a. eq.bare-Equal a.0.0.0.0 a.0.0.0.1 a.0.1;
+}
+
+equal_back : (k : ℕ) (l : Layer) → IsFormedFormula (roll-FormulaTree l) → lead l ≡ Some the.OpenParen → (u : Token) (us more : List Token) → is_name u ≡ true → heads (is the.Equals) us ≡ true
+    → Agree 2 (u ∷ us) (rest_texts k l ++ more) → Made (equals_at k) equal_of (roll-FormulaTree l)
+unfolding lead rest_marks
+equal_back k (layer.Equal t l r) f e u us more d g a =
+    let h = both_true _ _ (formed-roll (layer.Equal t l r) f) in
+    record { from = ((((t, l), 0), r), 0); formed = ((((tt, h.0), tt), h.1), tt); is = sym (tree.rolls-Equal t l r) }
+equal_back k (layer.Paren t i) f e u us more d g a =
+    let h = behind_formula (suc k) the.CloseParen refl refl i u us more d (subst (λ z. Agree 2 (u ∷ us) z) (both_then (formula_at i (suc k)) (fixed the.CloseParen ∷ []) more) a) in
+    absurd (false≢true (sym h.no_equals ∙ sym (h.begins_so (is the.Equals)) ∙ g))
+equal_back k (layer.And t ps) f e u us more d g a =
+    let h = behind_parts (suc k) the.And refl refl ps (formed-roll (layer.And t ps) f) u us more d a in absurd (false≢true (sym h.no_equals ∙ sym (h.begins_so (is the.Equals)) ∙ g))
+equal_back k (layer.Or t ps) f e u us more d g a =
+    let h = behind_parts (suc k) the.Or refl refl ps (formed-roll (layer.Or t ps) f) u us more d a in absurd (false≢true (sym h.no_equals ∙ sym (h.begins_so (is the.Equals)) ∙ g))
+equal_back k _ f e u us more d g a = absurd (cc)
+
+-- ---- what begins with a parenthesis
+
+module _ (k : ℕ) (l : k ≤ 64) (n : ℕ) (x : Token) (d : is_name x ≡ false) (s : starter_of x ≡ Some the.OpenParen) where
+  equality_reads : (u : Token) (us : List Token) → is_name u ≡ true → begins the.Equals us ≡ true → Reads (formulas_at k) Any n (x ∷ u ∷ us) (equality n (x ∷ u ∷ us))
+  unfolding equality
+  equality_reads u us e g = made_from k (equal_makes k)
+      (then (then (then (then (opened_reads k l the.OpenParen n (x ∷ u ∷ us)) name_part) (plain_part the.Equals)) name_part) (plain_part the.CloseParen)) 2
+      (record { value = ((((0, record { token = 0; text = u }), 0), some_name), 0); after = []; formed = ((((tt, e), tt), refl), tt); may_follow = tt; agrees = (starter-text x the.OpenParen s, (refl, tt)); shallow = (l, (tt, tt)) })
+      (λ a. omega arith)
+      (λ c more f _ h a. equal_back k c f (lead-first c x f d h ∙ s) u us more e g a)
+
+  module _ (item : Reader FormulaTree) (p : Part (formulas_at (suc k)) NotOpen item) where
+    inside_by : (ts : List Token) (j : ℕ) → j ≤ 2 → NoEquality j ts → Witness (inside_at k) Any (x ∷ ts) j → Reads (formulas_at k) Any n (x ∷ ts) (inside item n (x ∷ ts))
+    unfolding inside
+    inside_by ts j few no_equality w = made_from k (inside_makes k)
+        (pair (then (opened_reads k l the.OpenParen n (x ∷ ts)) p) (tail_part (suc k) item p) (λ c more f _. tail_follows (suc k) c more f)) j w
+        (λ a. omega (arith, few, tail_long (suc k) a.1, formula_long (suc k) a.0.1, length-append (formula_at a.0.1 (suc k)) (tail_marks (suc k) a.1)))
+        (λ c more f _ h a. inside_back k j ts no_equality c more f (lead-first c x f d h ∙ s) a)
+
+    -- no name stands behind the parenthesis
+    inside_other : (ts : List Token) → name_begins ts ≡ false → Reads (formulas_at k) Any n (x ∷ ts) (inside item n (x ∷ ts))
+    inside_other ts e = inside_by ts 1 (omega arith) (λ c more f a. false≢true (sym e ∙ Agree-heads is_name ts _ a ∙ f))
+        (record { value = ((0, tree.True 0), closed); after = []; formed = ((tt, some_formula), tt); may_follow = tt; agrees = (starter-text x the.OpenParen s, tt); shallow = (l, tt) })
+
+    -- a name does, and no `=` behind it
+    inside_name : suc k ≤ 64 → (u : Token) (us : List Token) → is_name u ≡ true → begins the.Equals us ≡ false → Reads (formulas_at k) Any n (x ∷ u ∷ us) (inside item n (x ∷ u ∷ us))
+    inside_name m u us e g =
+        let b : AtomTree = record { name = record { token = 0; text = u }; args = [] } in
+        let marks = eq.formula_at-Atom b (suc k) in
+        inside_by (u ∷ us) 2 (omega arith) (λ c more f a. false≢true (sym g ∙ Agree-heads (is the.Equals) us _ a.1))
+          (record {
+            value = ((0, tree.Atom b), closed);
+            after = [];
+            formed = ((tt, eq.formed-Atom b ∙ and_true _ _ e refl), tt);
+            may_follow = tt;
+            agrees = (starter-text x the.OpenParen s, rw marks (refl, tt));
+            shallow = (l, rw marks (m, tt));
+          })

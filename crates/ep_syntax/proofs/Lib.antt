@@ -9,3 +9,4 @@ pub mod AtomLaws
 pub mod TreeEquations
 pub mod Layers
 pub mod ParenLaws
+pub mod DeepLaws

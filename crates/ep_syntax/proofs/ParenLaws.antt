@@ -221,7 +221,7 @@ module _ {A : Type 0} {g : Grammar A} {F : Follow} {n : ℕ} {x : Token} {ts : L
 -- ---- a name behind the parenthesis
 
 -- what stands behind the name may follow a formula in parentheses, or begins its arguments
-record Followed (us : List Token) : Type 0 where
+pub record Followed (us : List Token) : Type 0 where
   pub terminal : Terminal
   pub follow : follows (text_of terminal) ≡ true
   pub no_equals : is the.Equals (text_of terminal) ≡ false
@@ -256,7 +256,7 @@ behind_parts k t f e (p ∷ q ∷ qs) g u us more d a =
     behind_formula k t f e p u us _ d (subst (λ z. Agree 2 (u ∷ us) z) (s1 ∙ s2) a)
 
 -- a layer that begins with a parenthesis and a name: an equality, or not
-followed : (k : ℕ) (l : Layer) → IsFormedFormula (roll-FormulaTree l) → lead l ≡ Some the.OpenParen → (u : Token) (us more : List Token) → is_name u ≡ true
+pub followed : (k : ℕ) (l : Layer) → IsFormedFormula (roll-FormulaTree l) → lead l ≡ Some the.OpenParen → (u : Token) (us more : List Token) → is_name u ≡ true
     → Agree 2 (u ∷ us) (rest_texts k l ++ more) → heads (is the.Equals) us ≡ false → Followed us
 unfolding lead rest_marks
 followed k (layer.Paren t i) f e u us more d a no_equals =
@@ -296,7 +296,7 @@ equal_back k _ f e u us more d g a = absurd (cc)
 -- ---- what begins with a parenthesis
 
 module _ (k : ℕ) (l : k ≤ 64) (n : ℕ) (x : Token) (d : is_name x ≡ false) (s : starter_of x ≡ Some the.OpenParen) where
-  equality_reads : (u : Token) (us : List Token) → is_name u ≡ true → begins the.Equals us ≡ true → Reads (formulas_at k) Any n (x ∷ u ∷ us) (equality n (x ∷ u ∷ us))
+  pub equality_reads : (u : Token) (us : List Token) → is_name u ≡ true → begins the.Equals us ≡ true → Reads (formulas_at k) Any n (x ∷ u ∷ us) (equality n (x ∷ u ∷ us))
   unfolding equality
   equality_reads u us e g = made_from k (equal_makes k)
       (then (then (then (then (opened_reads k l the.OpenParen n (x ∷ u ∷ us)) name_part) (plain_part the.Equals)) name_part) (plain_part the.CloseParen)) 2
@@ -313,12 +313,12 @@ module _ (k : ℕ) (l : k ≤ 64) (n : ℕ) (x : Token) (d : is_name x ≡ false
         (λ c more f _ h a. inside_back k j ts no_equality c more f (lead-first c x f d h ∙ s) a)
 
     -- no name stands behind the parenthesis
-    inside_other : (ts : List Token) → name_begins ts ≡ false → Reads (formulas_at k) Any n (x ∷ ts) (inside item n (x ∷ ts))
+    pub inside_other : (ts : List Token) → name_begins ts ≡ false → Reads (formulas_at k) Any n (x ∷ ts) (inside item n (x ∷ ts))
     inside_other ts e = inside_by ts 1 (omega arith) (λ c more f a. false≢true (sym e ∙ Agree-heads is_name ts _ a ∙ f))
         (record { value = ((0, tree.True 0), closed); after = []; formed = ((tt, some_formula), tt); may_follow = tt; agrees = (starter-text x the.OpenParen s, tt); shallow = (l, tt) })
 
     -- a name does, and no `=` behind it
-    inside_name : suc k ≤ 64 → (u : Token) (us : List Token) → is_name u ≡ true → begins the.Equals us ≡ false → Reads (formulas_at k) Any n (x ∷ u ∷ us) (inside item n (x ∷ u ∷ us))
+    pub inside_name : suc k ≤ 64 → (u : Token) (us : List Token) → is_name u ≡ true → begins the.Equals us ≡ false → Reads (formulas_at k) Any n (x ∷ u ∷ us) (inside item n (x ∷ u ∷ us))
     inside_name m u us e g =
         let b : AtomTree = record { name = record { token = 0; text = u }; args = [] } in
         let marks = eq.formula_at-Atom b (suc k) in

@@ -1,7 +1,8 @@
--- The laws of the readers where no nesting is left, and the law of the reader of formulas.
+-- The laws of the readers where no nesting is left.
 use Rattle.std.proofs.Common.{◌≡◌, ℕ, zero, suc, ◌+◌, ◌≤◌, ◌<◌, Bool, true, false, cond, ◌&&◌, ◌||◌, IsTrue, IfSome, List, [], ◌∷◌, ◌++◌, length, map, drop, Option, Some, None, Result, Ok, Err, refl, sym, ap, ◌∙◌, subst, arith, append_assoc, length-append}
 use Rattle.std.specs.Prelude.{nat_le, ◌==◌, is_some}
-use Rattle.std.proofs.lemmas.Bool.{false≢true}
+use Rattle.std.proofs.Math.Dec.{eqb-suc-zero}
+use Rattle.std.proofs.lemmas.Bool.{false≢true, le-leb}
 use Rattle.ep_syntax.specs.declared.terminal.Terminal.{Terminal}
 use Rattle.ep_syntax.specs.declared.terminal.Terminal.TheVariants as the
 use Rattle.ep_syntax.specs.declared.tree.Name.{Name}
@@ -45,14 +46,14 @@ formula_shallow k l b = subst (IsShallowTo 1) (sym (marks-out k b)) (l, tt)
 abbrev atom_named : Token → FormulaTree
 atom_named u = tree.Atom (record { name = record { token = 0; text = u }; args = [] })
 
-atom_named-formed : (u : Token) → is_name u ≡ true → IsFormedFormula (atom_named u)
+pub atom_named-formed : (u : Token) → is_name u ≡ true → IsFormedFormula (atom_named u)
 atom_named-formed u e = eq.formed-Atom _ ∙ and_true _ _ e refl
 
 atom_named-texts : (u : Token) (k : ℕ) → texts (formula_at (atom_named u) k) ≡ u ∷ []
 atom_named-texts u k = ap texts (eq.formula_at-Atom _ k)
 
 -- a formula that begins so
-record Beginning (k : ℕ) (front : List Token) : Type 0 where
+pub record Beginning (k : ℕ) (front : List Token) : Type 0 where
   pub tree : FormulaTree
   pub more : List Token
   pub formed : IsFormedFormula tree
@@ -144,7 +145,7 @@ or_false : (a b : Bool) → (a || b) ≡ false → (a ≡ false) × (b ≡ false
 or_false true b e = absurd (false≢true (sym e))
 or_false false b e = (refl, e)
 
-too_deep_reads : {F : Follow} (n : ℕ) (ts : List Token) → Reads (formulas_at 65) F n ts (too_deep n ts)
+pub too_deep_reads : {F : Follow} (n : ℕ) (ts : List Token) → Reads (formulas_at 65) F n ts (too_deep n ts)
 too_deep_reads n [] = end_reads 65 n
 too_deep_reads n (x ∷ ts) = either (is_name x || is_some (starter_of x))
     (λ e. deep_reads n x ts (starts_by x (is_name x) refl e))
@@ -249,3 +250,75 @@ module _ (n : ℕ) (x : Token) (d : is_name x ≡ false) (s : starter_of x ≡ S
       shallow = rw (eq.formula_at-Equal 0 (record { token = 0; text = u }) some_name 64) (omega arith, (tt, tt));
     };
   }
+
+module _ (n : ℕ) (x : Token) (d : is_name x ≡ false) (s : starter_of x ≡ Some the.OpenParen) (u : Token) (e : is_name u ≡ true) where
+  deep_name_found : (v : Token) (vs : List Token) → is the.Equals v ≡ false → follows v ≡ true → Reads (formulas_at 64) Any n (x ∷ u ∷ v ∷ vs) (Err (TooDeep (n + 1)))
+  deep_name_found v vs g f =
+      let t = follows_terminal v f in
+      let w : Beginning 64 (x ∷ u ∷ v ∷ []) = subst (λ z. Beginning 64 (z ∷ u ∷ v ∷ [])) (sym (starter-text x the.OpenParen s))
+      (subst (λ z. Beginning 64 (text_of the.OpenParen ∷ u ∷ z ∷ [])) (sym t.1) (beginning_behind u e t.0 t.2)) in
+      record {
+        holds = record {
+          front = x ∷ u ∷ v ∷ [];
+          back = vs;
+          text = refl;
+          index = 1;
+          within = omega arith;
+          at = refl;
+          opens = λ b more fb _ a. opens_second n x d s u (v ∷ vs) e g b more fb a;
+          first = λ b more fb _ a. formula_shallow 64 (omega arith) b;
+          value = w.tree;
+          more = w.more;
+          formed = w.formed;
+          begins = w.begins;
+        };
+      }
+
+  deep_name_reads : (us : List Token) → begins the.Equals us ≡ false → Reads (formulas_at 64) Any n (x ∷ u ∷ us) (deep_name n (x ∷ u ∷ us))
+  deep_name_reads us g = either (heads follows us) (found us g) (refused_name n x d s u us e g)
+    where
+      found : (us : List Token) → begins the.Equals us ≡ false → heads follows us ≡ true → Reads (formulas_at 64) Any n (x ∷ u ∷ us) (Err (TooDeep (n + 1)))
+      found [] g f = absurd (false≢true f)
+      found (v ∷ vs) g f = deep_name_found v vs g f
+
+-- ---- what begins with a parenthesis
+
+and_false : (a b : Bool) → (a && b) ≡ false → a ≡ true → b ≡ false
+and_false true b e d = e
+and_false false b e d = absurd (false≢true d)
+
+-- in the last nesting, or not
+module _ (k depth : ℕ) (all : k + depth ≡ 64) (n : ℕ) (x : Token) (d : is_name x ≡ false) (s : starter_of x ≡ Some the.OpenParen)
+    (item : Reader FormulaTree) (p : Part (formulas_at (suc k)) NotOpen item) where
+  opened_other : (ts : List Token) → name_begins ts ≡ false → Reads (formulas_at k) Any n (x ∷ ts) (opened (depth == 0) item n (x ∷ ts))
+  unfolding opened
+  opened_other ts e =
+      let l : k ≤ 64 = omega arith in
+      let a : is_equality (x ∷ ts) ≡ false = rw e refl in
+      let b : ((depth == 0) && name_begins ts) ≡ false = by_last (depth == 0) in
+      rw (a, b) (inside_other k l n x d s item p ts e)
+    where
+      by_last : (last : Bool) → (last && name_begins ts) ≡ false
+      by_last true = e
+      by_last false = refl
+
+  by_depth : (depth : ℕ) → k + depth ≡ 64 → (u : Token) (us : List Token) → is_name u ≡ true → begins the.Equals us ≡ false
+      → Reads (formulas_at k) Any n (x ∷ u ∷ us) (cond ((depth == 0) && is_name u) (deep_name n (x ∷ u ∷ us)) (inside item n (x ∷ u ∷ us)))
+  by_depth zero all u us e g =
+      let h : 64 ≡ k = omega arith in
+      rw e (subst (λ z. Reads (formulas_at z) Any n (x ∷ u ∷ us) (deep_name n (x ∷ u ∷ us))) h (deep_name_reads n x d s u e us g))
+  by_depth (suc rest) all u us e g = rw (eqb-suc-zero rest) (inside_name k (omega arith) n x d s item p (omega arith) u us e g)
+
+  opened_name : (u : Token) (us : List Token) → is_name u ≡ true → Reads (formulas_at k) Any n (x ∷ u ∷ us) (opened (depth == 0) item n (x ∷ u ∷ us))
+  unfolding opened
+  opened_name u us e = either (is_name u && begins the.Equals us)
+      (λ g. equality_reads k (omega arith) n x d s u us e (both_true _ _ g).1)
+      (λ g. by_depth depth all u us e (and_false _ _ g e))
+
+  pub opened_law : (ts : List Token) → Reads (formulas_at k) Any n (x ∷ ts) (opened (depth == 0) item n (x ∷ ts))
+  opened_law [] = opened_other [] refl
+  opened_law (u ∷ us) = by_name (is_name u) refl
+    where
+      by_name : (b : Bool) → is_name u ≡ b → Reads (formulas_at k) Any n (x ∷ u ∷ us) (opened (depth == 0) item n (x ∷ u ∷ us))
+      by_name true e = opened_name u us e
+      by_name false e = opened_other (u ∷ us) e

@@ -10,3 +10,4 @@ pub mod TreeEquations
 pub mod Layers
 pub mod ParenLaws
 pub mod DeepLaws
+pub mod FormulaLaws

@@ -11,3 +11,4 @@ pub mod Layers
 pub mod ParenLaws
 pub mod DeepLaws
 pub mod FormulaLaws
+pub mod Whole

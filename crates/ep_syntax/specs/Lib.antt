@@ -7,3 +7,4 @@ pub mod Grammar
 pub mod Reading
 pub mod FormulaReading
 pub mod Gives
+pub mod Answers

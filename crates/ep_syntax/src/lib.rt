@@ -5,11 +5,13 @@ mod atom;
 mod error;
 mod formula;
 mod parse;
+mod read;
 mod reader;
 pub mod terminal;
 pub mod tree;
 
 pub use error::SyntaxError;
+pub use read::read_formula;
 pub use terminal::Terminal;
 pub use tree::{
     AtomTree, BodyTree, CallTree, EventTree, FluentTree, FormulaTree, GroupTree, InitTree,

@@ -12,3 +12,7 @@ pub mod ParenLaws
 pub mod DeepLaws
 pub mod FormulaLaws
 pub mod Whole
+pub mod DeclarationLaws
+pub mod InitialLaws
+pub mod ActionLaws
+pub mod TaskLaws

@@ -1,5 +1,5 @@
 -- The pieces of a text: blanks, comments and the spellings of tokens.
-use Rattle.std.specs.Prelude.{◌≡◌, ℕ, ◌<◌, ◌⊎◌, ◌==◌, nat_le, ◌&&◌, ◌||◌, not, Bool, true, false, IsTrue, List, [], ◌∷◌, ◌++◌, length, take, drop, slice_index_or}
+use Rattle.std.specs.Prelude.{◌≡◌, ℕ, ◌<◌, ◌⊎◌, ◌==◌, nat_le, ◌&&◌, ◌||◌, not, Bool, true, false, IsTrue, IsFalse, Option, Some, None, IfSome, IsSomeAnd, List, [], ◌∷◌, ◌++◌, length, take, drop, slice_index}
 use Rattle.std.specs.List.{list_all}
 use Rattle.ep_lex.specs.declared.token.TokenKind.TheVariants.{Word, Number, Mark}
 use Rattle.ep_lex.specs.declared.token.PieceKind.{PieceKind}
@@ -73,23 +73,22 @@ pub record Piece : Type 0 where
 abbrev pub Split : List ℕ → List Piece → Type 0
 Split bytes [] = bytes ≡ []
 Split bytes (p ∷ ps) =
-    (rest : List ℕ) × (bytes ≡ p.text ++ rest) × (is_piece p.kind p.text ≡ true) × (ends p.kind p.text rest ≡ true) × Split rest ps
+    (rest : List ℕ) × (bytes ≡ p.text ++ rest) × IsTrue (is_piece p.kind p.text) × IsTrue (ends p.kind p.text rest) × Split rest ps
 
--- P of the last piece, and `none` if there is no piece
-abbrev pub last_is : (Piece → Type 0) → Type 0 → List Piece → Type 0
-last_is P none [] = none
-last_is P none (p ∷ []) = P p
-last_is P none (p ∷ q ∷ ps) = last_is P none (q ∷ ps)
+abbrev pub last_piece : List Piece → Option Piece
+last_piece [] = None
+last_piece (p ∷ []) = Some p
+last_piece (p ∷ q ∷ ps) = last_piece (q ∷ ps)
 
 -- some piece begins at the first byte
 abbrev pub Begins : List ℕ → Type 0
-Begins bytes = (kind : PieceKind) × (text : List ℕ) × (rest : List ℕ) × (bytes ≡ text ++ rest) × (is_piece kind text ≡ true)
+Begins bytes = (kind : PieceKind) × (text : List ℕ) × (rest : List ℕ) × (bytes ≡ text ++ rest) × IsTrue (is_piece kind text)
 
 -- a word of 64 bytes or a number of 9 digits, which the byte b would go on with
 abbrev pub is_full_at : PieceKind → ℕ → ℕ → Bool
-is_full_at (Spelling Word) n b = n == 64 && is_word_byte b
-is_full_at (Spelling Number) n b = n == 9 && is_digit b
-is_full_at _ n b = false
+is_full_at (Spelling Word) len b = len == 64 && is_word_byte b
+is_full_at (Spelling Number) len b = len == 9 && is_digit b
+is_full_at _ len b = false
 
 abbrev pub is_full : ℕ → Piece → Bool
 is_full b p = is_full_at p.kind (length p.text) b
@@ -98,10 +97,11 @@ abbrev pub is_comment : PieceKind → Bool
 is_comment Comment = true
 is_comment _ = false
 
--- The bytes before `at` split, and the byte there can stand in no token, blank or comment.
-pub record Stray (bytes : List ℕ) (at : ℕ) : Type 0 where
+-- The bytes before `at` split, with no comment at their end, and the byte there can stand in no token, blank or
+-- comment: the last piece is full, or no piece begins there.
+pub record IsStray (bytes : List ℕ) (at : ℕ) : Type 0 where
   pub within : at < length bytes
   pub pieces : List Piece
   pub split : Split (take at bytes) pieces
-  pub no_comment : last_is (λ p. is_comment p.kind ≡ false) (Unit {0}) pieces
-  pub why : last_is (λ p. is_full (slice_index_or bytes at 0) p ≡ true) ⊥ pieces ⊎ (Begins (drop at bytes) → ⊥)
+  pub no_comment : IfSome (last_piece pieces) (λ p. IsFalse (is_comment p.kind))
+  pub why : IsSomeAnd (last_piece pieces) (λ p. IsTrue (is_full (slice_index bytes at) p)) ⊎ (Begins (drop at bytes) → ⊥)

@@ -1,5 +1,5 @@
 ghost use Rattle.std.specs.Prelude.{◌≡◌, ◌≤◌, ◌<◌, ◌↔◌, length, OnOk, IfOk, Ok, Err};
-ghost use Rattle.ep_lex.specs.Pieces.{Stray};
+ghost use Rattle.ep_lex.specs.Pieces.{IsStray};
 ghost use Rattle.ep_lex.specs.Tokens.{AreTokens, end_line_of};
 
 use crate::token_list::TokenList;

@@ -2,6 +2,7 @@
 #![tactic(auto)]
 
 pub mod lex;
+mod piece;
 pub mod token;
 pub mod token_list;
 

@@ -1,0 +1,6 @@
+pub mod Scanned
+pub mod Splits
+pub mod Prefixes
+pub mod TokenLaws
+pub mod Progress
+pub mod LaidOut

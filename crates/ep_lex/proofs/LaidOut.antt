@@ -48,6 +48,10 @@ ends_blank Mark text b rest e = or_second (not (is_colon text)) (not (is_equals 
 
 pub laid_split : (ts : List Laid) → AreLaid ts → Split (laid ts) (laid_pieces ts)
 laid_split [] a = refl
-laid_split (t ∷ ts) a =
-    (t.blank ∷ laid ts, refl, a.0, ends_blank t.kind t.text t.blank (laid ts) a.1,
-      (laid ts, refl, (rw (blank_is t.blank a.1) refl), refl, laid_split ts a.2))
+laid_split (t ∷ ts) a = (
+  t.blank ∷ laid ts,
+  refl,
+  a.0,
+  ends_blank t.kind t.text t.blank (laid ts) a.1,
+  (laid ts, refl, (rw (blank_is t.blank a.1) refl), refl, laid_split ts a.2),
+)

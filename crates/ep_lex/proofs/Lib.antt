@@ -3,4 +3,5 @@ pub mod Splits
 pub mod Prefixes
 pub mod TokenLaws
 pub mod Progress
+pub mod Faults
 pub mod LaidOut

@@ -38,5 +38,5 @@ StandBefore-stray [] rest k s w = let z : 0 + k ≡ k = omega arith in subst (λ
 StandBefore-stray (p ∷ ps) rest k s w =
     let n : length p.text + (length (joined ps) + k) ≡ length (p.text ++ joined ps) + k = omega (arith, length-append p.text (joined ps)) in
     subst (λ m. IsStray ((p.text ++ joined ps) ++ rest) m) n
-      (stray_more p ((p.text ++ joined ps) ++ rest) (joined ps ++ rest) (length (joined ps) + k) (append_assoc p.text (joined ps) rest) s.0 s.1
-        (StandBefore-stray ps rest k s.2 w))
+    (stray_more p ((p.text ++ joined ps) ++ rest) (joined ps ++ rest) (length (joined ps) + k) (append_assoc p.text (joined ps) rest) s.0 s.1
+    (StandBefore-stray ps rest k s.2 w))

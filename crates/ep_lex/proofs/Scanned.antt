@@ -200,23 +200,35 @@ scanned_word : (b : ℕ) (bs xs ys : List ℕ) → is_letter b ≡ true → Span
 unfolding Spans
 scanned_word b bs xs ys l s = branch (b ∷ bs) (nat_le (length (b ∷ xs)) 64) _ _
     (λ e. let n : length xs ≤ 63 = omega (arith, small (length (b ∷ xs)) 64 e) in
-      (ap (λ z. b ∷ z) s.2, and_from (is_letter b && list_all is_word_byte xs) (nat_le (length xs) 63) (and_from (is_letter b) (list_all is_word_byte xs) l s.0) (le-leb (length xs) 63 n), s.1))
+    (ap (λ z. b ∷ z) s.2, and_from (is_letter b && list_all is_word_byte xs) (nat_le (length xs) 63) (and_from (is_letter b) (list_all is_word_byte xs) l s.0) (le-leb (length xs) 63 n), s.1))
     (λ e. let n : 63 < length xs = omega (arith, leb-false (length (b ∷ xs)) 64 e) in
-      let r = cut is_word_byte 63 xs n s.0 in
-      (Spelling Word, b ∷ r.0, r.1, r.2 ++ ys, ap (λ z. b ∷ z) (s.2 ∙ ap (λ z. z ++ ys) r.3 ∙ append_assoc r.0 (r.1 ∷ r.2) ys), ap suc r.4,
-        and_from (is_letter b && list_all is_word_byte r.0) (nat_le (length r.0) 63) (and_from (is_letter b) (list_all is_word_byte r.0) l r.5) (le-leb (length r.0) 63 (omega (arith, r.4))),
-        and_from (length (b ∷ r.0) == 64) (is_word_byte r.1) (eq-eqb (length (b ∷ r.0)) 64 (omega (arith, r.4))) r.6))
+    let r = cut is_word_byte 63 xs n s.0 in (
+      Spelling Word,
+      b ∷ r.0,
+      r.1,
+      r.2 ++ ys,
+      ap (λ z. b ∷ z) (s.2 ∙ ap (λ z. z ++ ys) r.3 ∙ append_assoc r.0 (r.1 ∷ r.2) ys),
+      ap suc r.4,
+      and_from (is_letter b && list_all is_word_byte r.0) (nat_le (length r.0) 63) (and_from (is_letter b) (list_all is_word_byte r.0) l r.5) (le-leb (length r.0) 63 (omega (arith, r.4))),
+      and_from (length (b ∷ r.0) == 64) (is_word_byte r.1) (eq-eqb (length (b ∷ r.0)) 64 (omega (arith, r.4))) r.6,
+    ))
 
 scanned_number : (b : ℕ) (bs xs ys : List ℕ) → is_digit b ≡ true → Spans is_digit bs xs ys → IsScanned (b ∷ bs) (at_most 9 (Spelling Number) (b ∷ xs) ys)
 unfolding Spans
 scanned_number b bs xs ys l s = branch (b ∷ bs) (nat_le (length (b ∷ xs)) 9) _ _
     (λ e. let n : length xs ≤ 8 = omega (arith, small (length (b ∷ xs)) 9 e) in
-      (ap (λ z. b ∷ z) s.2, and_from (is_digit b && list_all is_digit xs) (nat_le (length xs) 8) (and_from (is_digit b) (list_all is_digit xs) l s.0) (le-leb (length xs) 8 n), s.1))
+    (ap (λ z. b ∷ z) s.2, and_from (is_digit b && list_all is_digit xs) (nat_le (length xs) 8) (and_from (is_digit b) (list_all is_digit xs) l s.0) (le-leb (length xs) 8 n), s.1))
     (λ e. let n : 8 < length xs = omega (arith, leb-false (length (b ∷ xs)) 9 e) in
-      let r = cut is_digit 8 xs n s.0 in
-      (Spelling Number, b ∷ r.0, r.1, r.2 ++ ys, ap (λ z. b ∷ z) (s.2 ∙ ap (λ z. z ++ ys) r.3 ∙ append_assoc r.0 (r.1 ∷ r.2) ys), ap suc r.4,
-        and_from (is_digit b && list_all is_digit r.0) (nat_le (length r.0) 8) (and_from (is_digit b) (list_all is_digit r.0) l r.5) (le-leb (length r.0) 8 (omega (arith, r.4))),
-        and_from (length (b ∷ r.0) == 9) (is_digit r.1) (eq-eqb (length (b ∷ r.0)) 9 (omega (arith, r.4))) r.6))
+    let r = cut is_digit 8 xs n s.0 in (
+      Spelling Number,
+      b ∷ r.0,
+      r.1,
+      r.2 ++ ys,
+      ap (λ z. b ∷ z) (s.2 ∙ ap (λ z. z ++ ys) r.3 ∙ append_assoc r.0 (r.1 ∷ r.2) ys),
+      ap suc r.4,
+      and_from (is_digit b && list_all is_digit r.0) (nat_le (length r.0) 8) (and_from (is_digit b) (list_all is_digit r.0) l r.5) (le-leb (length r.0) 8 (omega (arith, r.4))),
+      and_from (length (b ∷ r.0) == 9) (is_digit r.1) (eq-eqb (length (b ∷ r.0)) 9 (omega (arith, r.4))) r.6,
+    ))
 
 or_true : (x : Bool) → (x || true) ≡ true
 or_true true = refl
@@ -247,7 +259,7 @@ scanned_dash b [] e = let h = dash_alone b e in
 scanned_dash b (c ∷ cs) e = branch (b ∷ c ∷ cs) (c == 62) _ _
     (λ f. let h = dash_alone b e in (refl, rw (h.4, e, f) refl, rw h.4 refl))
     (λ f. let h = dash_alone b e in nothing b (c ∷ cs) h.0 h.1 h.2 h.3
-      (one_or_two b (c ∷ cs) (dash_no_mark b e) (λ d ds q. let same : c ≡ d = cc in let g : (d == 62) ≡ false = ap (λ z. z == 62) (sym same) ∙ f in rw (h.4, e, g) refl)))
+    (one_or_two b (c ∷ cs) (dash_no_mark b e) (λ d ds q. let same : c ≡ d = cc in let g : (d == 62) ≡ false = ap (λ z. z == 62) (sym same) ∙ f in rw (h.4, e, g) refl)))
 
 -- What a scan gives is a piece that goes no further, and where it gives none, none begins or a full one goes on.
 pub scan_is : (bs : List ℕ) → IsScanned bs (scan bs)
@@ -261,13 +273,15 @@ scan_is (b ∷ bs) =
     branch (b ∷ bs) (b == 58) _ _ (λ e. scanned_colon b bs e) (λ d4.
     branch (b ∷ bs) (b == 45) _ _ (λ e. scanned_dash b bs e) (λ d5.
     branch (b ∷ bs) (is_mark_byte b) (Ok (Spelling Mark, b ∷ [], bs)) (Err 0) (λ e. (refl, e, ends_other (b == 58) (stops is_equals bs) d4))
-      (λ d6. nothing b bs d0 d1 d2 d3 (one_or_two b bs d6 (λ c cs q. neither (b == 58) (b == 45) (c == 61) (c == 62) d4 d5)))))))))
+    (λ d6. nothing b bs d0 d1 d2 d3 (one_or_two b bs d6 (λ c cs q. neither (b == 58) (b == 45) (c == 61) (c == 62) d4 d5)))))))))
   where
     spans_no_feed : (bs : List ℕ) → (list_all is_comment_byte (front is_comment_byte bs) ≡ true) × (stops is_comment_byte (behind is_comment_byte bs) ≡ true) × (bs ≡ front is_comment_byte bs ++ behind is_comment_byte bs)
     spans_no_feed bs = spans is_comment_byte bs
+
     ends_other : (x y : Bool) → x ≡ false → (not (x && true) || y) ≡ true
     ends_other true y e = absurd (true≢false e)
     ends_other false y e = refl
+
     neither : (x y u v : Bool) → x ≡ false → y ≡ false → ((x && u) || (y && v)) ≡ false
     neither true y u v e f = absurd (true≢false e)
     neither false true u v e f = absurd (true≢false f)

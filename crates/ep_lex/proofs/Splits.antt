@@ -4,13 +4,13 @@ use Rattle.std.proofs.Math.Seq.{take-append-add, drop-append-add}
 use Rattle.std.proofs.lemmas.List.{take-append-drop, drop_more, length-take-le, append-nil, take_at, drop_at, get_or_at, get_or-append-add}
 use Rattle.std.proofs.lemmas.Bool.{false≢true, true≢false, and_parts, eqb-true, lt-leb}
 use Rattle.std.proofs.lemmas.Bool.Decides.{nat_tests}
-use Rattle.std.specs.Prelude.{not, nat_le, IfSome, IsSomeAnd}
+use Rattle.std.specs.Prelude.{not, nat_le, IfSome, IsSomeAnd, IsTrue}
 use Rattle.std.specs.List.{list_all}
 use Rattle.ep_lex.specs.declared.token.TokenKind.TheVariants.{Word, Number, Mark}
 use Rattle.ep_lex.specs.declared.token.PieceKind.{PieceKind}
 use Rattle.ep_lex.specs.declared.token.PieceKind.TheVariants.{Blank, Comment, Spelling}
 use Rattle.ep_lex.specs.Pieces.{is_letter, is_digit, is_word_byte, is_mark_byte, is_equals, is_colon, is_piece, ends, stops, is_comment_byte, is_full, is_full_at, is_comment, last_piece, Begins, Piece, Split, IsStray}
-use Rattle.ep_lex.specs.Scan.{front, Scanned, scan}
+use Rattle.ep_lex.specs.Scan.{front, Scanned, scan, lengths}
 use Rattle.ep_lex.proofs.Scanned.{IsScanned, scan_is, scan_piece, never_empty, letter_alone, digit_alone, front-more, front-yes}
 
 -- the pieces from a place on, or the place of the stray byte
@@ -115,7 +115,7 @@ stray_more p bs r k e i d s = record {
 }
 
 -- what scanning on says
-abbrev IsSplit : List ℕ → Result (List Piece) ℕ → Type 0
+abbrev pub IsSplit : List ℕ → Result (List Piece) ℕ → Type 0
 IsSplit bs (Ok ps) = Split bs ps
 IsSplit bs (Err k) = IsStray bs k
 
@@ -181,7 +181,7 @@ full_word b c bs r p f =
     let a = letter_alone b g.0 in
     let w = front-more is_word_byte bs (c ∷ r) g.1 in
     let t : nat_le (length (b ∷ front is_word_byte (bs ++ c ∷ r))) 64 ≡ false =
-        lt-leb (length (b ∷ front is_word_byte (bs ++ c ∷ r))) 64 (omega (arith, l, ap length w, length-append bs (front is_word_byte (c ∷ r)), ap length (front-yes is_word_byte c r q.1))) in
+    lt-leb (length (b ∷ front is_word_byte (bs ++ c ∷ r))) 64 (omega (arith, l, ap length w, length-append bs (front is_word_byte (c ∷ r)), ap length (front-yes is_word_byte c r q.1))) in
     rw (a.0, a.1, g.0, t, l) refl
 
 full_number : (b c : ℕ) (bs r : List ℕ) → is_piece (Spelling Number) (b ∷ bs) ≡ true → is_full_at (Spelling Number) (length (b ∷ bs)) c ≡ true → scan (b ∷ (bs ++ c ∷ r)) ≡ Err (length (b ∷ bs))
@@ -193,7 +193,7 @@ full_number b c bs r p f =
     let a = digit_alone b g.0 in
     let w = front-more is_digit bs (c ∷ r) g.1 in
     let t : nat_le (length (b ∷ front is_digit (bs ++ c ∷ r))) 9 ≡ false =
-        lt-leb (length (b ∷ front is_digit (bs ++ c ∷ r))) 9 (omega (arith, l, ap length w, length-append bs (front is_digit (c ∷ r)), ap length (front-yes is_digit c r q.1))) in
+    lt-leb (length (b ∷ front is_digit (bs ++ c ∷ r))) 9 (omega (arith, l, ap length w, length-append bs (front is_digit (c ∷ r)), ap length (front-yes is_digit c r q.1))) in
     rw (a.0, a.1, a.2, g.0, t, l) refl
 
 full_scan : (s : PieceKind) (text : List ℕ) (c : ℕ) (r : List ℕ) → is_piece s text ≡ true → is_full_at s (length text) c ≡ true → scan (text ++ c ∷ r) ≡ Err (length text)
@@ -279,4 +279,39 @@ Split-found (suc fuel) bs (p ∷ ps) l s =
     let n : length s.0 ≤ fuel = omega (arith, ap length s.1, length-append p.text s.0, long p.kind p.text s.2) in
     let m : 0 < length (p.text ++ s.0) = omega (arith, length-append p.text s.0, long p.kind p.text s.2) in
     ap (split (suc fuel)) s.1 ∙ split_scan fuel (p.text ++ s.0) (Ok (p.kind, p.text, s.0)) (scan_piece p.kind p.text s.0 s.2 s.3) m
-      ∙ ap (before p) (Split-found fuel s.0 ps n s.4)
+    ∙ ap (before p) (Split-found fuel s.0 ps n s.4)
+
+-- a piece of this kind and length stands at the front of the bytes, and what follows does not go on with it
+pub record IsFront (bytes : List ℕ) (kind : PieceKind) (len : ℕ) : Type 0 where
+  pub text : List ℕ
+  pub rest : List ℕ
+  pub bytes_are : bytes ≡ text ++ rest
+  pub length_is : length text ≡ len
+  pub piece : IsTrue (is_piece kind text)
+  pub ended : IsTrue (ends kind text rest)
+
+-- What a scan of some bytes answers.
+pub front-scanned : (bs : List ℕ) (kind : PieceKind) (len : ℕ) → Ok (kind, len) ≡ lengths (scan bs) → IsFront bs kind len
+front-scanned bs kind len e = by_scan (scan bs) (scan_is bs) e
+  where
+    by_scan : (s : Scanned) → IsScanned bs s → Ok (kind, len) ≡ lengths s → IsFront bs kind len
+    by_scan (Ok x) i e =
+        let pair : ◌≡◌ {A = PieceKind × ℕ} (kind, len) (x.0, length x.1) = cc in
+        let k : x.0 ≡ kind = ap (λ z. z.0) (sym pair) in
+        record {
+          text = x.1;
+          rest = x.2;
+          bytes_are = i.0;
+          length_is = ap (λ z. z.1) (sym pair);
+          piece = subst (λ z. is_piece z x.1 ≡ true) k i.1;
+          ended = subst (λ z. ends z x.1 x.2 ≡ true) k i.2;
+        }
+    by_scan (Err k) i e = absurd (cc)
+
+pub stray-scanned : (bs : List ℕ) (k : ℕ) → 0 < length bs → Err k ≡ lengths (scan bs) → IsStray bs k
+stray-scanned [] k l e = absurd (omega arith)
+stray-scanned (b ∷ bs) k l e = by_scan (scan (b ∷ bs)) (scan_is (b ∷ bs)) e
+  where
+    by_scan : (s : Scanned) → IsScanned (b ∷ bs) s → Err k ≡ lengths s → IsStray (b ∷ bs) k
+    by_scan (Ok x) i e = absurd (cc)
+    by_scan (Err j) i e = let same : j ≡ k = cc in subst (λ z. IsStray (b ∷ bs) z) same (scan_stray b bs j i)

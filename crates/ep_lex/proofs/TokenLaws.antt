@@ -20,7 +20,7 @@ pub tokens_behind-append : (before : List ℕ) (ps qs : List Piece) → tokens_b
 tokens_behind-append before [] qs = ap (λ z. tokens_behind z qs) (sym (append-nil before))
 tokens_behind-append before (p ∷ ps) qs =
     ap (λ z. token_behind before p.kind p.text ++ z) (tokens_behind-append (before ++ p.text) ps qs
-      ∙ ap (λ z. tokens_behind (before ++ p.text) ps ++ tokens_behind z qs) (append_assoc before p.text (joined ps)))
+    ∙ ap (λ z. tokens_behind (before ++ p.text) ps ++ tokens_behind z qs) (append_assoc before p.text (joined ps)))
     ∙ sym (append_assoc (token_behind before p.kind p.text) (tokens_behind (before ++ p.text) ps) (tokens_behind (before ++ (p.text ++ joined ps)) qs))
 
 -- a token lies within the bytes, and its bytes there are a spelling of its kind
@@ -51,8 +51,10 @@ spellings_behind before rest (p ∷ ps) s =
   where
     same : before ++ rest ≡ (before ++ p.text) ++ s.0
     same = ap (λ z. before ++ z) s.1 ∙ sym (append_assoc before p.text s.0)
+
     here : slice_range (before ++ rest) (length before) (length before + length p.text) ≡ p.text
     here = ap (λ z. slice_range (before ++ z) (length before) (length before + length p.text)) s.1 ∙ slice_range-seam before p.text s.0
+
     by_kind : (k : PieceKind) → map (spelling (before ++ rest)) (tokens_behind (before ++ p.text) ps) ≡ texts_of ps
         → map (spelling (before ++ rest)) (token_behind before k p.text ++ tokens_behind (before ++ p.text) ps) ≡ text_of k p.text ++ texts_of ps
     by_kind Blank behind = behind
@@ -70,13 +72,16 @@ spelled_behind before rest (p ∷ ps) s i t e =
   where
     same : before ++ rest ≡ (before ++ p.text) ++ s.0
     same = ap (λ z. before ++ z) s.1 ∙ sym (append_assoc before p.text s.0)
+
     here : slice_range (before ++ rest) (length before) (length before + length p.text) ≡ p.text
     here = ap (λ z. slice_range (before ++ z) (length before) (length before + length p.text)) s.1 ∙ slice_range-seam before p.text s.0
+
     first : (k : TokenKind) → IsTrue (is_piece (Spelling k) p.text) → record { kind = k; start = length before; len = length p.text; line = line_behind before } ≡ t → IsSpelled (before ++ rest) t
     first k i g = subst (IsSpelled (before ++ rest)) g (record {
-        within = omega (arith, ap length s.1, length-append before rest, length-append p.text s.0);
-        spelled = subst (λ z. IsTrue (is_piece (Spelling k) z)) (sym here) i;
-      })
+      within = omega (arith, ap length s.1, length-append before rest, length-append p.text s.0);
+      spelled = subst (λ z. IsTrue (is_piece (Spelling k) z)) (sym here) i;
+    })
+
     by_kind : (k : PieceKind) → IsTrue (is_piece k p.text) → (j : ℕ) → slice_get (token_behind before k p.text ++ tokens_behind (before ++ p.text) ps) j ≡ Some t
         → ((m : ℕ) → slice_get (tokens_behind (before ++ p.text) ps) m ≡ Some t → IsSpelled (before ++ rest) t) → IsSpelled (before ++ rest) t
     by_kind Blank i j g behind = behind j g

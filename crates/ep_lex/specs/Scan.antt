@@ -3,7 +3,7 @@ use Rattle.std.specs.Prelude.{◌≡◌, ℕ, zero, suc, ◌+◌, ◌==◌, nat_
 use Rattle.ep_lex.specs.declared.token.TokenKind.TheVariants.{Word, Number, Mark}
 use Rattle.ep_lex.specs.declared.token.PieceKind.{PieceKind}
 use Rattle.ep_lex.specs.declared.token.PieceKind.TheVariants.{Blank, Comment, Spelling}
-use Rattle.ep_lex.specs.Pieces.{is_blank, is_letter, is_digit, is_word_byte, is_comment_byte, is_mark_byte, Piece}
+use Rattle.ep_lex.specs.Pieces.{is_blank, is_letter, is_digit, is_word_byte, is_comment_byte, is_mark_byte}
 
 -- the longest front that passes, and what is behind it
 abbrev pub front : (ℕ → Bool) → List ℕ → List ℕ

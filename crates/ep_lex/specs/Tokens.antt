@@ -1,5 +1,5 @@
 -- The tokens of a text: the spellings among its pieces, with their places and lines.
-use Rattle.std.specs.Prelude.{◌≡◌, ℕ, ◌+◌, List, [], ◌∷◌, ◌++◌, length, map, slice_range, slice_index_or}
+use Rattle.std.specs.Prelude.{◌≡◌, ℕ, ◌+◌, ◌<◌, ◌≤◌, List, [], ◌∷◌, ◌++◌, length, map, slice_range, slice_index_or}
 use Rattle.std.specs.List.{count_by}
 use Rattle.ep_lex.specs.declared.token.PieceKind.{PieceKind}
 use Rattle.ep_lex.specs.declared.token.PieceKind.TheVariants.{Blank, Comment, Spelling}
@@ -34,6 +34,14 @@ spelling bytes t = slice_range bytes t.start (t.start + t.len)
 -- the bytes of each token
 abbrev pub spellings : List ℕ → List Token → List (List ℕ)
 spellings bytes tokens = map (spelling bytes) tokens
+
+-- the text has tokens, and no more than a list of them may have
+abbrev pub HasTokens : List ℕ → Type 0
+HasTokens bytes = (tokens : List Token) × AreTokens bytes tokens × (length tokens ≤ 262144)
+
+-- the text has more tokens than that
+abbrev pub HasTooManyTokens : List ℕ → Type 0
+HasTooManyTokens bytes = (tokens : List Token) × AreTokens bytes tokens × (262144 < length tokens)
 
 -- the line of the end of a text
 abbrev pub end_line_of : List ℕ → ℕ

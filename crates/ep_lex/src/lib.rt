@@ -1,6 +1,7 @@
 //! The tokens of a text.
 #![tactic(auto)]
 
+pub mod laws;
 pub mod lex;
 mod piece;
 pub mod token;

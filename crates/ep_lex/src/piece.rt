@@ -43,7 +43,10 @@ fn is_comment_byte(b: u8) -> bool
 fn is_mark_byte(b: u8) -> bool
     ensures { result ≡ pieces.is_mark_byte b }
 {
-    matches!(b, b'{' | b'}' | b'(' | b')' | b',' | b';' | b':' | b'<' | b'=')
+    matches!(
+        b,
+        b'{' | b'}' | b'(' | b')' | b',' | b';' | b':' | b'<' | b'='
+    )
 }
 
 fn word_bytes(bytes: &[u8]) -> usize

@@ -8,7 +8,7 @@ use std::marker::Model;
 /// The tokens of a text in order, at most 262,144, and the line of its end.
 #[derive(Debug, Drop)]
 pub struct TokenList {
-    items: Vec<Token>,
+    items: List<Token>,
     last_line: u32,
 }
 
@@ -18,24 +18,32 @@ impl Model for TokenList {
 
     ghost Value = { Lexed };
 
-    ghost view = { λ t. record { tokens = t.items.items; end_line = t.last_line } };
+    ghost view = { λ t. record { tokens = t.items; end_line = t.last_line } };
 
-    ghost invariant = { λ t. length t.items.items ≤ 262144 };
+    ghost invariant = { λ t. length t.items ≤ 262144 };
 }
 
 impl TokenList {
+    pub(crate) fn from_parts(items: List<Token>, last_line: u32) -> TokenList
+        requires { length items ≤ 262144 }
+        ensures tokens { result.tokens ≡ items }
+        ensures line { result.end_line ≡ last_line }
+    {
+        TokenList { items, last_line }
+    }
+
     pub fn count(&self) -> u32
         ensures value { result ≡ length self.now.tokens }
         ensures bound { length self.now.tokens ≤ 262144 }
     {
-        self.items.len() as u32
+        self.items.as_slice().len() as u32
     }
 
     pub fn token(&self, i: u32) -> Token
         requires { i < length self.now.tokens }
         ensures { slice_get self.now.tokens i ≡ Some result }
     {
-        self.items[i as usize]
+        self.items.as_slice()[i as usize]
     }
 
     /// The line of a token, or of the end of the text where `i` is the count.
@@ -43,7 +51,7 @@ impl TokenList {
         requires { i ≤ length self.now.tokens }
         ensures { result ≡ line_at self.now i }
     {
-        match self.items.get(i as usize) {
+        match self.items.as_slice().get(i as usize) {
             Some(token) => token.line,
             None => self.last_line,
         }

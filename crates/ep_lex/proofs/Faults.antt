@@ -1,13 +1,9 @@
 -- A text has tokens or a stray byte, and not both.
-use Rattle.std.proofs.Common.{◌≡◌, ◌≢◌, ℕ, ◌≤◌, ◌<◌, ◌⊎◌, inl, inr, List, [], length, Result, Ok, Err, refl, sym, ap, ◌∙◌, subst, arith}
-use Rattle.std.specs.Prelude.{IsOk}
-use Rattle.ep_lex.specs.declared.lex.LexError.{LexError}
-use Rattle.ep_lex.specs.declared.lex.LexError.TheVariants.{Stray, TooManyTokens, OutOfMemory}
+use Rattle.std.proofs.Common.{◌≡◌, ℕ, ◌⊎◌, inl, inr, List, [], length, Result, Ok, Err, refl, arith}
 use Rattle.ep_lex.specs.declared.token.Token.{Token}
-use Rattle.ep_lex.specs.Pieces.{Piece, Split, IsStray}
-use Rattle.ep_lex.specs.Tokens.{tokens_behind, AreTokens, HasTooManyTokens, Lexed}
+use Rattle.ep_lex.specs.Pieces.{Piece, IsStray}
+use Rattle.ep_lex.specs.Tokens.{tokens_behind, AreTokens}
 use Rattle.ep_lex.proofs.Splits.{IsSplit, split, split_is, Split-found, Stray-found}
-use Rattle.ep_lex.proofs.TokenLaws.{tokens-unique}
 
 pub stray-unique : (bytes : List ℕ) (at before : ℕ) → IsStray bytes at → IsStray bytes before → at ≡ before
 stray-unique bytes at before s t = let e = Stray-found bytes at s in let f = Stray-found bytes before t in cc

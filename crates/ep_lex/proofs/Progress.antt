@@ -1,19 +1,19 @@
 -- How far the tokens of a text are read.
-use Rattle.std.proofs.Common.{◌≡◌, ℕ, zero, suc, ◌+◌, ◌-◌, ◌≤◌, ◌<◌, Bool, true, false, cond, eqb, ltb, List, [], ◌∷◌, ◌++◌, length, take, drop, get_or, Result, Ok, Err, refl, sym, ap, ◌∙◌, subst, arith, append_assoc, length-append}
-use Rattle.std.specs.Prelude.{IsTrue, nat_lt, nat_le, ◌==◌, ◌&&◌, ◌||◌}
+use Rattle.std.proofs.Common.{◌≡◌, ℕ, ◌+◌, ◌-◌, ◌≤◌, ◌<◌, Bool, true, false, cond, List, [], ◌∷◌, ◌++◌, length, take, drop, get_or, Ok, Err, refl, sym, ap, ◌∙◌, subst, arith, append_assoc, length-append}
+use Rattle.std.specs.Prelude.{nat_lt, nat_le, ◌==◌, ◌&&◌, ◌||◌}
 use Rattle.std.specs.List.{count_by, list_all}
-use Rattle.std.proofs.lemmas.Bool.{false≢true, true≢false, and_parts, eqb-true, ltb-true, ltb-false}
+use Rattle.std.proofs.lemmas.Bool.{false≢true, and_parts, eqb-true, ltb-true, ltb-false}
 use Rattle.std.proofs.lemmas.Bool.Decides.{nat_tests}
 use Rattle.std.proofs.lemmas.List.{append-nil, take-append-drop, length-take-le, take_all, take-append-le, get_or-drop, length-drop, length-take}
 use Rattle.std.proofs.Math.ListN.{drop_of_length-le}
 use Rattle.std.proofs.Math.Seq.{take-append_seam, drop-append_seam}
-use Rattle.std.proofs.lemmas.List.Sums.{sum_by-append, count_by-le-length}
+use Rattle.std.proofs.lemmas.List.Sums.{sum_by-append}
 use Rattle.ep_lex.specs.declared.token.TokenKind.{TokenKind}
 use Rattle.ep_lex.specs.declared.token.TokenKind.TheVariants.{Word, Number, Mark}
 use Rattle.ep_lex.specs.declared.token.PieceKind.{PieceKind}
 use Rattle.ep_lex.specs.declared.token.PieceKind.TheVariants.{Blank, Comment, Spelling}
 use Rattle.ep_lex.specs.declared.token.Token.{Token}
-use Rattle.ep_lex.specs.Pieces.{is_line_feed, is_blank, is_letter, is_digit, is_word_byte, is_comment_byte, is_mark_byte, is_piece, ends, Piece, Split, IsStray}
+use Rattle.ep_lex.specs.Pieces.{is_line_feed, is_blank, is_letter, is_digit, is_word_byte, is_comment_byte, is_mark_byte, is_piece, Piece, Split, IsStray}
 use Rattle.ep_lex.specs.Scan.{scan, lengths}
 use Rattle.ep_lex.specs.Tokens.{token_behind, tokens_behind, line_behind, AreTokens, HasTooManyTokens}
 use Rattle.ep_lex.proofs.Splits.{long, IsFront, front-scanned, stray-scanned}
@@ -275,8 +275,15 @@ kept_few bytes at line count kept r = omega (arith, ap length r.kept_are, length
 pub IsReadTo-along : (bytes : List ℕ) (at line count line' count' : ℕ) (kept kept' : List Token) → line' ≡ line → count' ≡ count → kept' ≡ kept
     → IsReadTo bytes at line count kept → IsReadTo bytes at line' count' kept'
 IsReadTo-along bytes at line count line' count' kept kept' l c k r = record {
-  pieces = r.pieces; before = r.before; joined_is = r.joined_is; within = r.within; line_is = l ∙ r.line_is; count_is = c ∙ r.count_is; kept_are = k ∙ r.kept_are;
-  few = omega (arith, c, r.few) }
+  pieces = r.pieces;
+  before = r.before;
+  joined_is = r.joined_is;
+  within = r.within;
+  line_is = l ∙ r.line_is;
+  count_is = c ∙ r.count_is;
+  kept_are = k ∙ r.kept_are;
+  few = omega (arith, c, r.few);
+}
 
 -- more tokens are counted than may be kept
 pub too_many : (bytes : List ℕ) (at line count : ℕ) (kept : List Token) → IsReadTo bytes at line count kept → length bytes ≤ at → 262144 < count → HasTooManyTokens bytes

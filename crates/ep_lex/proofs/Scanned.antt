@@ -1,5 +1,5 @@
 -- A text has one front piece.
-use Rattle.std.proofs.Common.{◌≡◌, ℕ, zero, suc, ◌+◌, ◌≤◌, ◌<◌, Bool, true, false, cond, ◌&&◌, ◌||◌, ◌==◌, eqb, leb, List, [], ◌∷◌, ◌++◌, length, Result, Ok, Err, refl, sym, ap, ◌∙◌, subst, arith, append_assoc}
+use Rattle.std.proofs.Common.{◌≡◌, ℕ, zero, suc, ◌≤◌, ◌<◌, Bool, true, false, cond, ◌&&◌, ◌||◌, ◌==◌, List, [], ◌∷◌, ◌++◌, length, Ok, Err, refl, sym, ap, ◌∙◌, subst, arith, append_assoc}
 use Rattle.std.specs.Prelude.{not, nat_le}
 use Rattle.std.proofs.lemmas.Bool.{false≢true, true≢false, eqb-true, eq-eqb, le-leb, leb-false, and_from}
 use Rattle.std.proofs.lemmas.Bool.Decides.{nat_tests}
@@ -8,7 +8,7 @@ use Rattle.std.specs.List.{list_all}
 use Rattle.ep_lex.specs.declared.token.TokenKind.TheVariants.{Word, Number, Mark}
 use Rattle.ep_lex.specs.declared.token.PieceKind.{PieceKind}
 use Rattle.ep_lex.specs.declared.token.PieceKind.TheVariants.{Blank, Comment, Spelling}
-use Rattle.ep_lex.specs.Pieces.{is_blank, is_letter, is_digit, is_word_byte, is_comment_byte, is_mark_byte, is_mark, is_piece, stops, ends, is_colon, is_equals, is_full_at, Begins, Piece, Split}
+use Rattle.ep_lex.specs.Pieces.{is_blank, is_letter, is_digit, is_word_byte, is_comment_byte, is_mark_byte, is_mark, is_piece, stops, ends, is_equals, is_full_at, Begins, Piece, Split}
 use Rattle.ep_lex.specs.Scan.{front, behind, Scanned, at_most, with_next, scan}
 
 both : (a b : Bool) → (a && b) ≡ true → (a ≡ true) × (b ≡ true)

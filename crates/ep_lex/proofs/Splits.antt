@@ -1,7 +1,7 @@
 -- Scanning on gives the split, or the stray byte.
 use Rattle.std.proofs.Common.{◌≡◌, ℕ, zero, suc, ◌+◌, ◌≤◌, ◌<◌, Bool, true, false, ◌==◌, ◌&&◌, ◌||◌, List, [], ◌∷◌, ◌++◌, length, take, drop, get_or, Result, Ok, Err, refl, sym, ap, ◌∙◌, subst, arith, ◌⊎◌, inl, inr, ⊎_elim, append_assoc, length-append}
 use Rattle.std.proofs.Math.Seq.{take-append-add, drop-append-add}
-use Rattle.std.proofs.lemmas.List.{take-append-drop, drop_more, length-take-le, append-nil, take_at, drop_at, get_or_at, get_or-append-add}
+use Rattle.std.proofs.lemmas.List.{take-append-drop, drop_more, length-take-le, append-nil, take_at, get_or_at, get_or-append-add}
 use Rattle.std.proofs.lemmas.Bool.{false≢true, true≢false, and_parts, eqb-true, lt-leb}
 use Rattle.std.proofs.lemmas.Bool.Decides.{nat_tests}
 use Rattle.std.specs.Prelude.{not, nat_le, IfSome, IsSomeAnd, IsTrue}
@@ -9,7 +9,7 @@ use Rattle.std.specs.List.{list_all}
 use Rattle.ep_lex.specs.declared.token.TokenKind.TheVariants.{Word, Number, Mark}
 use Rattle.ep_lex.specs.declared.token.PieceKind.{PieceKind}
 use Rattle.ep_lex.specs.declared.token.PieceKind.TheVariants.{Blank, Comment, Spelling}
-use Rattle.ep_lex.specs.Pieces.{is_letter, is_digit, is_word_byte, is_mark_byte, is_equals, is_colon, is_piece, ends, stops, is_comment_byte, is_full, is_full_at, is_comment, last_piece, Begins, Piece, Split, IsStray}
+use Rattle.ep_lex.specs.Pieces.{is_letter, is_digit, is_word_byte, is_mark_byte, is_equals, is_colon, is_piece, ends, stops, is_full, is_full_at, is_comment, last_piece, Begins, Piece, Split, IsStray}
 use Rattle.ep_lex.specs.Scan.{front, Scanned, scan, lengths}
 use Rattle.ep_lex.proofs.Scanned.{IsScanned, scan_is, scan_piece, never_empty, letter_alone, digit_alone, front-more, front-yes}
 

@@ -1,5 +1,5 @@
 -- The tokens of a text, by its pieces.
-use Rattle.std.proofs.Common.{◌≡◌, ℕ, zero, suc, ◌+◌, ◌-◌, ◌≤◌, Bool, true, false, cond, List, [], ◌∷◌, ◌++◌, length, take, drop, map, Option, Some, None, refl, sym, ap, ◌∙◌, subst, arith, append_assoc, length-append}
+use Rattle.std.proofs.Common.{◌≡◌, ℕ, zero, suc, ◌+◌, ◌-◌, ◌≤◌, List, [], ◌∷◌, ◌++◌, length, take, drop, map, Some, refl, sym, ap, ◌∙◌, subst, arith, append_assoc, length-append}
 use Rattle.std.specs.Prelude.{IsTrue, slice_get, slice_range}
 use Rattle.std.proofs.lemmas.List.{append-nil}
 use Rattle.std.proofs.Math.Seq.{take-append_seam, drop-append_seam}
@@ -7,7 +7,7 @@ use Rattle.ep_lex.specs.declared.token.PieceKind.{PieceKind}
 use Rattle.ep_lex.specs.declared.token.PieceKind.TheVariants.{Blank, Comment, Spelling}
 use Rattle.ep_lex.specs.declared.token.TokenKind.{TokenKind}
 use Rattle.ep_lex.specs.declared.token.Token.{Token}
-use Rattle.ep_lex.specs.Pieces.{is_piece, ends, Piece, Split}
+use Rattle.ep_lex.specs.Pieces.{is_piece, Piece, Split}
 use Rattle.ep_lex.specs.Tokens.{token_behind, tokens_behind, line_behind, AreTokens, spelling, spellings}
 use Rattle.ep_lex.proofs.Scanned.{Split-same}
 use Rattle.ep_lex.proofs.Prefixes.{joined}

@@ -1,12 +1,11 @@
-use Rattle.std.proofs.Common.{◌≡◌, ◌+◌, ◌-◌, ◌≤◌, ◌<◌, ℕ, Ok, Err, inl, inr, length, take, drop, Fits, w32, w64, cond, sym, ap, ◌∙◌, subst, arith}
+use Rattle.std.proofs.Common.{◌≡◌, ◌+◌, Err, inl, length, drop, sym, ap, ◌∙◌, subst, arith}
 use Rattle.ep_lex.specs.declared.lex.LexError.TheVariants.{Stray}
-use Rattle.ep_lex.specs.declared.token.PieceKind.TheVariants.{Blank, Comment, Spelling}
 use Rattle.ep_lex.specs.Pieces.{IsStray}
 use Rattle.ep_lex.specs.Tokens.{AreTokens}
 use Rattle.ep_lex.proofs.TokenLaws.{tokens-unique}
 use Rattle.ep_lex.proofs.Faults.{stray-unique, stray-no_tokens}
 use Rattle.ep_lex.proofs.Splits.{IsFront}
-use Rattle.ep_lex.proofs.Progress.{IsReadTo, front_at, piece_within, stray_at, stray_within, IsReadTo-blank, IsReadTo-comment, IsReadTo-spelling, IsReadTo-along, kept_all, kept_few, too_many}
+use Rattle.ep_lex.proofs.Progress.{front_at, piece_within, stray_at, stray_within, IsReadTo-blank, IsReadTo-comment, IsReadTo-spelling, IsReadTo-along, kept_all, kept_few, too_many}
 use Rattle.ep_lex.proofs.lex.tokens.Goals as goal
 use Rattle.ep_lex.proofs.lex.tokens.Goals.{in-Blank, in-Comment, in-Spelling+in_ok-keep-in-Spelling}
 
@@ -60,18 +59,19 @@ pub loop-at-preserved : goal.loop-at-preserved
 loop-at-preserved c =
     let f = front_at c.args.bytes.now c.loop-at.at c.in-Ok.piece.0 c.in-Ok.piece.1 (sym c.in-Ok.is ∙ c.front_piece.ensures) in
     elim c.match-kind.branch [
-      in-Blank w ↦
-        let b = subst (λ z. IsFront (drop c.loop-at.at c.args.bytes.now) z c.in-Ok.piece.1) w.in-Blank.is f in
-        let r = IsReadTo-blank c.args.bytes.now c.loop-at.at c.loop-at.line c.loop-at.count c.in-Ok.piece.1 c.loop-at.kept c.loop-at.invariant b in
-        IsReadTo-along _ _ _ _ _ _ _ _ (w.line-is ∙ ap (λ z. c.loop-at.line + z) w.line_feeds-line.ensures) w.count-is w.kept-is r
-    | in-Comment w ↦
-        let b = subst (λ z. IsFront (drop c.loop-at.at c.args.bytes.now) z c.in-Ok.piece.1) w.in-Comment.is f in
-        let r = IsReadTo-comment c.args.bytes.now c.loop-at.at c.loop-at.line c.loop-at.count c.in-Ok.piece.1 c.loop-at.kept c.loop-at.invariant b in
-        IsReadTo-along _ _ _ _ _ _ _ _ w.line-is w.count-is w.kept-is r
-    | in-Spelling+in_ok-keep-in-Spelling w ↦
-        let b = subst (λ z. IsFront (drop c.loop-at.at c.args.bytes.now) z c.in-Ok.piece.1) w.in-Spelling.is f in
-        let r = IsReadTo-spelling c.args.bytes.now c.loop-at.at c.loop-at.line c.loop-at.count c.in-Ok.piece.1 c.loop-at.kept c.loop-at.invariant w.in-Spelling.kind b in
-        IsReadTo-along _ _ _ _ _ _ _ _ w.line-is w.count-is (w.kept-is ∙ w.in_ok-keep-in-Spelling.ensures) r ]
+      | in-Blank w ↦
+          let b = subst (λ z. IsFront (drop c.loop-at.at c.args.bytes.now) z c.in-Ok.piece.1) w.in-Blank.is f in
+          let r = IsReadTo-blank c.args.bytes.now c.loop-at.at c.loop-at.line c.loop-at.count c.in-Ok.piece.1 c.loop-at.kept c.loop-at.invariant b in
+          IsReadTo-along _ _ _ _ _ _ _ _ (w.line-is ∙ ap (λ z. c.loop-at.line + z) w.line_feeds-line.ensures) w.count-is w.kept-is r
+      | in-Comment w ↦
+          let b = subst (λ z. IsFront (drop c.loop-at.at c.args.bytes.now) z c.in-Ok.piece.1) w.in-Comment.is f in
+          let r = IsReadTo-comment c.args.bytes.now c.loop-at.at c.loop-at.line c.loop-at.count c.in-Ok.piece.1 c.loop-at.kept c.loop-at.invariant b in
+          IsReadTo-along _ _ _ _ _ _ _ _ w.line-is w.count-is w.kept-is r
+      | in-Spelling+in_ok-keep-in-Spelling w ↦
+          let b = subst (λ z. IsFront (drop c.loop-at.at c.args.bytes.now) z c.in-Ok.piece.1) w.in-Spelling.is f in
+          let r = IsReadTo-spelling c.args.bytes.now c.loop-at.at c.loop-at.line c.loop-at.count c.in-Ok.piece.1 c.loop-at.kept c.loop-at.invariant w.in-Spelling.kind b in
+          IsReadTo-along _ _ _ _ _ _ _ _ w.line-is w.count-is (w.kept-is ∙ w.in_ok-keep-in-Spelling.ensures) r
+    ]
 
 pub returns-then-count-gt-MOST_TOKENS-clause-too_many : goal.returns-then-count-gt-MOST_TOKENS-clause-too_many
 returns-then-count-gt-MOST_TOKENS-clause-too_many c = λ e.
@@ -93,15 +93,19 @@ from_parts-requires c = kept_few c.args.bytes.now c.loop-at.at c.loop-at.line c.
 pub returns-clause-tokens : goal.returns-clause-tokens
 returns-clause-tokens c =
     subst (AreTokens c.args.bytes.now) (sym c.from_parts.ensures.tokens)
-      (kept_all c.args.bytes.now c.loop-at.at c.loop-at.line c.loop-at.count c.loop-at.kept c.loop-at.invariant c.loop-at-test.false c.if-count-gt-MOST_TOKENS.false)
+    (kept_all c.args.bytes.now c.loop-at.at c.loop-at.line c.loop-at.count c.loop-at.kept c.loop-at.invariant c.loop-at-test.false c.if-count-gt-MOST_TOKENS.false)
 
 pub returns-clause-stray_is_told : goal.returns-clause-stray_is_told
 returns-clause-stray_is_told c = λ at s.
     absurd (stray-no_tokens c.args.bytes.now at c.loop-at.kept s
-      (kept_all c.args.bytes.now c.loop-at.at c.loop-at.line c.loop-at.count c.loop-at.kept c.loop-at.invariant c.loop-at-test.false c.if-count-gt-MOST_TOKENS.false))
+    (kept_all c.args.bytes.now c.loop-at.at c.loop-at.line c.loop-at.count c.loop-at.kept c.loop-at.invariant c.loop-at-test.false c.if-count-gt-MOST_TOKENS.false))
 
 pub returns-clause-too_many_is_told : goal.returns-clause-too_many_is_told
 returns-clause-too_many_is_told c = λ h.
     let t = kept_all c.args.bytes.now c.loop-at.at c.loop-at.line c.loop-at.count c.loop-at.kept c.loop-at.invariant c.loop-at-test.false c.if-count-gt-MOST_TOKENS.false in
-    absurd (omega (arith, h.2, kept_few c.args.bytes.now c.loop-at.at c.loop-at.line c.loop-at.count c.loop-at.kept c.loop-at.invariant,
-      ap length (tokens-unique c.args.bytes.now h.0 c.loop-at.kept h.1 t)))
+    absurd (omega (
+      arith,
+      h.2,
+      kept_few c.args.bytes.now c.loop-at.at c.loop-at.line c.loop-at.count c.loop-at.kept c.loop-at.invariant,
+      ap length (tokens-unique c.args.bytes.now h.0 c.loop-at.kept h.1 t),
+    ))

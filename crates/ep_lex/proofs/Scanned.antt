@@ -1,6 +1,6 @@
 -- A text has one front piece.
 use Rattle.std.proofs.Common.{◌≡◌, ℕ, zero, suc, ◌≤◌, ◌<◌, Bool, true, false, cond, ◌&&◌, ◌||◌, ◌==◌, List, [], ◌∷◌, ◌++◌, length, Ok, Err, refl, sym, ap, ◌∙◌, subst, arith, append_assoc}
-use Rattle.std.specs.Prelude.{not, nat_le}
+use Rattle.std.specs.Prelude.{not, nat_le, take_while}
 use Rattle.std.proofs.lemmas.Bool.{false≢true, true≢false, eqb-true, eq-eqb, le-leb, leb-false, and_from}
 use Rattle.std.proofs.lemmas.Bool.Decides.{nat_tests}
 use Rattle.std.proofs.lemmas.List.Sums.{take_while-cons}
@@ -9,24 +9,24 @@ use Rattle.ep_lex.specs.declared.token.TokenKind.TheVariants.{Word, Number, Mark
 use Rattle.ep_lex.specs.declared.token.PieceKind.{PieceKind}
 use Rattle.ep_lex.specs.declared.token.PieceKind.TheVariants.{Blank, Comment, Spelling}
 use Rattle.ep_lex.specs.Pieces.{is_blank, is_letter, is_digit, is_word_byte, is_comment_byte, is_mark_byte, is_mark, is_piece, stops, ends, is_equals, is_full_at, Begins, Piece, Split}
-use Rattle.ep_lex.specs.Scan.{front, behind, Scanned, at_most, with_next, scan}
+use Rattle.ep_lex.specs.Scan.{behind, Scanned, at_most, with_next, scan}
 
 both : (a b : Bool) → (a && b) ≡ true → (a ≡ true) × (b ≡ true)
 both true b e = (refl, e)
 both false b e = absurd (false≢true e)
 
 -- a front that passes, before what does not go on
-front-append : (p : ℕ → Bool) (xs ys : List ℕ) → list_all p xs ≡ true → stops p ys ≡ true → (front p (xs ++ ys) ≡ xs) × (behind p (xs ++ ys) ≡ ys)
-front-append p [] [] a s = (refl, refl)
-front-append p [] (y ∷ ys) a s = by_test (p y) refl s
+take_while-append : (p : ℕ → Bool) (xs ys : List ℕ) → list_all p xs ≡ true → stops p ys ≡ true → (take_while p (xs ++ ys) ≡ xs) × (behind p (xs ++ ys) ≡ ys)
+take_while-append p [] [] a s = (refl, refl)
+take_while-append p [] (y ∷ ys) a s = by_test (p y) refl s
   where
-    by_test : (b : Bool) → p y ≡ b → not b ≡ true → (front p (y ∷ ys) ≡ []) × (cond (p y) (behind p ys) (y ∷ ys) ≡ y ∷ ys)
+    by_test : (b : Bool) → p y ≡ b → not b ≡ true → (take_while p (y ∷ ys) ≡ []) × (cond (p y) (behind p ys) (y ∷ ys) ≡ y ∷ ys)
     by_test true e h = absurd (false≢true h)
-    by_test false e h = (take_while-cons p y ys ∙ ap (λ b. cond b (y ∷ front p ys) []) e, ap (λ b. cond b (behind p ys) (y ∷ ys)) e)
-front-append p (x ∷ xs) ys a s =
+    by_test false e h = (take_while-cons p y ys ∙ ap (λ b. cond b (y ∷ take_while p ys) []) e, ap (λ b. cond b (behind p ys) (y ∷ ys)) e)
+take_while-append p (x ∷ xs) ys a s =
     let h = both (p x) (list_all p xs) a in
-    let r = front-append p xs ys h.1 s in
-    (take_while-cons p x (xs ++ ys) ∙ ap (λ b. cond b (x ∷ front p (xs ++ ys)) []) h.0 ∙ ap (λ z. x ∷ z) r.0, ap (λ b. cond b (behind p (xs ++ ys)) (x ∷ (xs ++ ys))) h.0 ∙ r.1)
+    let r = take_while-append p xs ys h.1 s in
+    (take_while-cons p x (xs ++ ys) ∙ ap (λ b. cond b (x ∷ take_while p (xs ++ ys)) []) h.0 ∙ ap (λ z. x ∷ z) r.0, ap (λ b. cond b (behind p (xs ++ ys)) (x ∷ (xs ++ ys))) h.0 ∙ r.1)
 
 pub letter_alone : (b : ℕ) → is_letter b ≡ true → (is_blank b ≡ false) × ((b == 35) ≡ false)
 letter_alone b e = (grind (arith, nat_tests), grind (arith, nat_tests))
@@ -53,14 +53,14 @@ scan_word : (b : ℕ) (bs rest : List ℕ) → is_letter b ≡ true → list_all
     → scan (b ∷ (bs ++ rest)) ≡ Ok (Spelling Word, b ∷ bs, rest)
 scan_word b bs rest l a n s =
     let h = letter_alone b l in
-    let r = front-append is_word_byte bs rest a s in
+    let r = take_while-append is_word_byte bs rest a s in
     rw (h.0, h.1, l, r.0, r.1) (at_most_fits 64 (Spelling Word) (b ∷ bs) rest (omega arith))
 
 scan_number : (b : ℕ) (bs rest : List ℕ) → is_digit b ≡ true → list_all is_digit bs ≡ true → length bs ≤ 8 → stops is_digit rest ≡ true
     → scan (b ∷ (bs ++ rest)) ≡ Ok (Spelling Number, b ∷ bs, rest)
 scan_number b bs rest l a n s =
     let h = digit_alone b l in
-    let r = front-append is_digit bs rest a s in
+    let r = take_while-append is_digit bs rest a s in
     rw (h.0, h.1, h.2, l, r.0, r.1) (at_most_fits 9 (Spelling Number) (b ∷ bs) rest (omega arith))
 
 hash_alone : (b : ℕ) → (b == 35) ≡ true → is_blank b ≡ false
@@ -68,7 +68,7 @@ hash_alone b e = grind (arith, nat_tests)
 
 scan_comment : (b : ℕ) (bs rest : List ℕ) → (b == 35) ≡ true → list_all is_comment_byte bs ≡ true → stops is_comment_byte rest ≡ true
     → scan (b ∷ (bs ++ rest)) ≡ Ok (Comment, b ∷ bs, rest)
-scan_comment b bs rest h a s = let r = front-append is_comment_byte bs rest a s in let q = hash_alone b h in rw (q, h, r.0, r.1) refl
+scan_comment b bs rest h a s = let r = take_while-append is_comment_byte bs rest a s in let q = hash_alone b h in rw (q, h, r.0, r.1) refl
 
 colon_alone : (b : ℕ) → (b == 58) ≡ true → (is_blank b ≡ false) × ((b == 35) ≡ false) × (is_letter b ≡ false) × (is_digit b ≡ false)
 colon_alone b e = (grind (arith, nat_tests), grind (arith, nat_tests), grind (arith, nat_tests), grind (arith, nat_tests))
@@ -154,10 +154,10 @@ unfolding Spans
 spans_more p b bs xs ys true e s = (rw e s.0, s.1, ap (λ z. b ∷ z) s.2)
 spans_more p b bs xs ys false e s = (refl, ap not e, refl)
 
-spans : (p : ℕ → Bool) (bs : List ℕ) → Spans p bs (front p bs) (behind p bs)
+spans : (p : ℕ → Bool) (bs : List ℕ) → Spans p bs (take_while p bs) (behind p bs)
 unfolding Spans
 spans p [] = (refl, refl, refl)
-spans p (b ∷ bs) = subst (λ z. Spans p (b ∷ bs) z (behind p (b ∷ bs))) (sym (take_while-cons p b bs)) (spans_more p b bs (front p bs) (behind p bs) (p b) refl (spans p bs))
+spans p (b ∷ bs) = subst (λ z. Spans p (b ∷ bs) z (behind p (b ∷ bs))) (sym (take_while-cons p b bs)) (spans_more p b bs (take_while p bs) (behind p bs) (p b) refl (spans p bs))
 
 -- what a scan says
 abbrev pub IsScanned : List ℕ → Scanned → Type 0
@@ -275,7 +275,7 @@ scan_is (b ∷ bs) =
     branch (b ∷ bs) (is_mark_byte b) (Ok (Spelling Mark, b ∷ [], bs)) (Err 0) (λ e. (refl, e, ends_other (b == 58) (stops is_equals bs) d4))
     (λ d6. nothing b bs d0 d1 d2 d3 (one_or_two b bs d6 (λ c cs q. neither (b == 58) (b == 45) (c == 61) (c == 62) d4 d5)))))))))
   where
-    spans_no_feed : (bs : List ℕ) → (list_all is_comment_byte (front is_comment_byte bs) ≡ true) × (stops is_comment_byte (behind is_comment_byte bs) ≡ true) × (bs ≡ front is_comment_byte bs ++ behind is_comment_byte bs)
+    spans_no_feed : (bs : List ℕ) → (list_all is_comment_byte (take_while is_comment_byte bs) ≡ true) × (stops is_comment_byte (behind is_comment_byte bs) ≡ true) × (bs ≡ take_while is_comment_byte bs ++ behind is_comment_byte bs)
     spans_no_feed bs = spans is_comment_byte bs
 
     ends_other : (x y : Bool) → x ≡ false → (not (x && true) || y) ≡ true
@@ -287,11 +287,11 @@ scan_is (b ∷ bs) =
     neither false true u v e f = absurd (true≢false f)
     neither false false u v e f = refl
 
-pub front-more : (p : ℕ → Bool) (xs ys : List ℕ) → list_all p xs ≡ true → front p (xs ++ ys) ≡ xs ++ front p ys
-front-more p [] ys a = refl
-front-more p (x ∷ xs) ys a =
+pub take_while-append_all : (p : ℕ → Bool) (xs ys : List ℕ) → list_all p xs ≡ true → take_while p (xs ++ ys) ≡ xs ++ take_while p ys
+take_while-append_all p [] ys a = refl
+take_while-append_all p (x ∷ xs) ys a =
     let h = both (p x) (list_all p xs) a in
-    take_while-cons p x (xs ++ ys) ∙ ap (λ b. cond b (x ∷ front p (xs ++ ys)) []) h.0 ∙ ap (λ z. x ∷ z) (front-more p xs ys h.1)
+    take_while-cons p x (xs ++ ys) ∙ ap (λ b. cond b (x ∷ take_while p (xs ++ ys)) []) h.0 ∙ ap (λ z. x ∷ z) (take_while-append_all p xs ys h.1)
 
-pub front-yes : (p : ℕ → Bool) (c : ℕ) (r : List ℕ) → p c ≡ true → front p (c ∷ r) ≡ c ∷ front p r
-front-yes p c r e = take_while-cons p c r ∙ ap (λ b. cond b (c ∷ front p r) []) e
+pub take_while-first : (p : ℕ → Bool) (c : ℕ) (r : List ℕ) → p c ≡ true → take_while p (c ∷ r) ≡ c ∷ take_while p r
+take_while-first p c r e = take_while-cons p c r ∙ ap (λ b. cond b (c ∷ take_while p r) []) e

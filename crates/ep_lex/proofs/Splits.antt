@@ -4,14 +4,14 @@ use Rattle.std.proofs.Math.Seq.{take-append-add, drop-append-add}
 use Rattle.std.proofs.lemmas.List.{take-append-drop, drop_more, length-take-le, append-nil, take_at, get_or_at, get_or-append-add}
 use Rattle.std.proofs.lemmas.Bool.{false≢true, true≢false, and_parts, eqb-true, lt-leb}
 use Rattle.std.proofs.lemmas.Bool.Decides.{nat_tests}
-use Rattle.std.specs.Prelude.{not, nat_le, IfSome, IsSomeAnd, IsTrue}
+use Rattle.std.specs.Prelude.{not, nat_le, take_while, IfSome, IsSomeAnd, IsTrue}
 use Rattle.std.specs.List.{list_all}
 use Rattle.ep_lex.specs.declared.token.TokenKind.TheVariants.{Word, Number, Mark}
 use Rattle.ep_lex.specs.declared.token.PieceKind.{PieceKind}
 use Rattle.ep_lex.specs.declared.token.PieceKind.TheVariants.{Blank, Comment, Spelling}
 use Rattle.ep_lex.specs.Pieces.{is_letter, is_digit, is_word_byte, is_mark_byte, is_equals, is_colon, is_piece, ends, stops, is_full, is_full_at, is_comment, last_piece, Begins, Piece, Split, IsStray}
-use Rattle.ep_lex.specs.Scan.{front, Scanned, scan, lengths}
-use Rattle.ep_lex.proofs.Scanned.{IsScanned, scan_is, scan_piece, never_empty, letter_alone, digit_alone, front-more, front-yes}
+use Rattle.ep_lex.specs.Scan.{Scanned, scan, lengths}
+use Rattle.ep_lex.proofs.Scanned.{IsScanned, scan_is, scan_piece, never_empty, letter_alone, digit_alone, take_while-append_all, take_while-first}
 
 -- the pieces from a place on, or the place of the stray byte
 abbrev pub before : Piece → Result (List Piece) ℕ → Result (List Piece) ℕ
@@ -179,9 +179,9 @@ full_word b c bs r p f =
     let q = and_parts (length (b ∷ bs) == 64) (is_word_byte c) f in
     let l : length (b ∷ bs) ≡ 64 = eqb-true (length (b ∷ bs)) 64 q.0 in
     let a = letter_alone b g.0 in
-    let w = front-more is_word_byte bs (c ∷ r) g.1 in
-    let t : nat_le (length (b ∷ front is_word_byte (bs ++ c ∷ r))) 64 ≡ false =
-    lt-leb (length (b ∷ front is_word_byte (bs ++ c ∷ r))) 64 (omega (arith, l, ap length w, length-append bs (front is_word_byte (c ∷ r)), ap length (front-yes is_word_byte c r q.1))) in
+    let w = take_while-append_all is_word_byte bs (c ∷ r) g.1 in
+    let t : nat_le (length (b ∷ take_while is_word_byte (bs ++ c ∷ r))) 64 ≡ false =
+    lt-leb (length (b ∷ take_while is_word_byte (bs ++ c ∷ r))) 64 (omega (arith, l, ap length w, length-append bs (take_while is_word_byte (c ∷ r)), ap length (take_while-first is_word_byte c r q.1))) in
     rw (a.0, a.1, g.0, t, l) refl
 
 full_number : (b c : ℕ) (bs r : List ℕ) → is_piece (Spelling Number) (b ∷ bs) ≡ true → is_full_at (Spelling Number) (length (b ∷ bs)) c ≡ true → scan (b ∷ (bs ++ c ∷ r)) ≡ Err (length (b ∷ bs))
@@ -191,9 +191,9 @@ full_number b c bs r p f =
     let q = and_parts (length (b ∷ bs) == 9) (is_digit c) f in
     let l : length (b ∷ bs) ≡ 9 = eqb-true (length (b ∷ bs)) 9 q.0 in
     let a = digit_alone b g.0 in
-    let w = front-more is_digit bs (c ∷ r) g.1 in
-    let t : nat_le (length (b ∷ front is_digit (bs ++ c ∷ r))) 9 ≡ false =
-    lt-leb (length (b ∷ front is_digit (bs ++ c ∷ r))) 9 (omega (arith, l, ap length w, length-append bs (front is_digit (c ∷ r)), ap length (front-yes is_digit c r q.1))) in
+    let w = take_while-append_all is_digit bs (c ∷ r) g.1 in
+    let t : nat_le (length (b ∷ take_while is_digit (bs ++ c ∷ r))) 9 ≡ false =
+    lt-leb (length (b ∷ take_while is_digit (bs ++ c ∷ r))) 9 (omega (arith, l, ap length w, length-append bs (take_while is_digit (c ∷ r)), ap length (take_while-first is_digit c r q.1))) in
     rw (a.0, a.1, a.2, g.0, t, l) refl
 
 full_scan : (s : PieceKind) (text : List ℕ) (c : ℕ) (r : List ℕ) → is_piece s text ≡ true → is_full_at s (length text) c ≡ true → scan (text ++ c ∷ r) ≡ Err (length text)

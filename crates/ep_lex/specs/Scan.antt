@@ -5,10 +5,7 @@ use Rattle.ep_lex.specs.declared.token.PieceKind.{PieceKind}
 use Rattle.ep_lex.specs.declared.token.PieceKind.TheVariants.{Blank, Comment, Spelling}
 use Rattle.ep_lex.specs.Pieces.{is_blank, is_letter, is_digit, is_word_byte, is_comment_byte, is_mark_byte}
 
--- the longest front that passes, and what is behind it
-abbrev pub front : (ℕ → Bool) → List ℕ → List ℕ
-front p bs = take_while p bs
-
+-- what stands behind the longest front that passes
 abbrev pub behind : (ℕ → Bool) → List ℕ → List ℕ
 behind p [] = []
 behind p (b ∷ bs) = if p b then behind p bs else b ∷ bs
@@ -32,9 +29,9 @@ abbrev pub scan : List ℕ → Scanned
 scan [] = Err 0
 scan (b ∷ bs) =
     if is_blank b then Ok (Blank, b ∷ [], bs)
-    else (if b == 35 then Ok (Comment, b ∷ front is_comment_byte bs, behind is_comment_byte bs)
-    else (if is_letter b then at_most 64 (Spelling Word) (b ∷ front is_word_byte bs) (behind is_word_byte bs)
-    else (if is_digit b then at_most 9 (Spelling Number) (b ∷ front is_digit bs) (behind is_digit bs)
+    else (if b == 35 then Ok (Comment, b ∷ take_while is_comment_byte bs, behind is_comment_byte bs)
+    else (if is_letter b then at_most 64 (Spelling Word) (b ∷ take_while is_word_byte bs) (behind is_word_byte bs)
+    else (if is_digit b then at_most 9 (Spelling Number) (b ∷ take_while is_digit bs) (behind is_digit bs)
     else (if b == 58 then with_next b 61 bs (Ok (Spelling Mark, b ∷ [], bs))
     else (if b == 45 then with_next b 62 bs (Err 0)
     else (if is_mark_byte b then Ok (Spelling Mark, b ∷ [], bs) else Err 0))))))

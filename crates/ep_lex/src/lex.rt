@@ -8,6 +8,8 @@ use crate::token_list::TokenList;
 use ep_logic::{List, OutOfMemory};
 use std::alloc::Global;
 
+/// Why a text has no list of tokens. `at` is the number of bytes before the first byte that can stand in no token,
+/// blank or comment. `TooManyTokens` says that none is stray and there are more than 262,144 tokens.
 #[derive(Clone, Copy, Debug, PartialEq, Eq)]
 pub enum LexError {
     Stray { at: u32 },
@@ -28,6 +30,8 @@ impl From<OutOfMemory> for LexError {
 
 const MOST_TOKENS: usize = 262_144;
 
+/// The tokens of a text of at most 1,048,576 bytes, in time in proportion to its length. What a token is and what a
+/// stray byte is are this project's own.
 pub fn tokens(alloc: Global, bytes: &[u8]) -> Result<TokenList, LexError>
     requires { length bytes.now ≤ 1048576 }
     ensures tokens { IfOk result (λ found. AreTokens bytes.now found.tokens) }

@@ -1,6 +1,6 @@
 // The piece at the front of a text.
 
-ghost use Rattle.std.specs.Prelude.{◌≡◌, ◌≤◌, length, nat_le, if◌then◌else◌, Ok, Err};
+ghost use Rattle.std.specs.Prelude.{◌≡◌, ◌≤◌, length, nat_le, take_while, if◌then◌else◌, Ok, Err};
 ghost use Rattle.ep_lex.specs.Pieces as pieces;
 ghost use Rattle.ep_lex.specs.Scan as scan;
 
@@ -50,21 +50,21 @@ fn is_mark_byte(b: u8) -> bool
 }
 
 fn word_bytes(bytes: &[u8]) -> usize
-    ensures count { result ≡ length (scan.front pieces.is_word_byte bytes.now) }
+    ensures count { result ≡ length (take_while pieces.is_word_byte bytes.now) }
     ensures within { result ≤ length bytes.now }
 {
     bytes.iter().take_while(|b| is_word_byte(**b)).count()
 }
 
 fn digits(bytes: &[u8]) -> usize
-    ensures count { result ≡ length (scan.front pieces.is_digit bytes.now) }
+    ensures count { result ≡ length (take_while pieces.is_digit bytes.now) }
     ensures within { result ≤ length bytes.now }
 {
     bytes.iter().take_while(|b| is_digit(**b)).count()
 }
 
 fn comment_bytes(bytes: &[u8]) -> usize
-    ensures count { result ≡ length (scan.front pieces.is_comment_byte bytes.now) }
+    ensures count { result ≡ length (take_while pieces.is_comment_byte bytes.now) }
     ensures within { result ≤ length bytes.now }
 {
     bytes.iter().take_while(|b| is_comment_byte(**b)).count()

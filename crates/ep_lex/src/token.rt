@@ -1,5 +1,7 @@
 //! Tokens, and the pieces that a text is made of.
 
+/// A word is a letter or `_` and then letters, digits and `_`, at most 64 bytes; a number is 1 to 9 digits; the marks are
+/// `:=`, `->` and the bytes of `{}(),;:<=`.
 #[derive(Clone, Copy, Debug, PartialEq, Eq)]
 pub enum TokenKind {
     Word,
@@ -7,7 +9,8 @@ pub enum TokenKind {
     Mark,
 }
 
-/// A token of a text. `start` and `len` count bytes, `len` is from 1 to 64, and the first line is 1.
+/// A token of a text. `start` and `len` count bytes, and `len` is from 1 to 64. `line` is 1 plus the number of line feeds
+/// before the first byte.
 #[derive(Clone, Copy, Debug, PartialEq, Eq)]
 pub struct Token {
     pub kind: TokenKind,
@@ -16,7 +19,8 @@ pub struct Token {
     pub line: u32,
 }
 
-/// What a piece of a text is.
+/// What a piece of a text is: one blank, a comment from `#` to before the next line feed or the end, or the spelling of a
+/// token.
 #[derive(Clone, Copy, Debug, PartialEq, Eq)]
 pub enum PieceKind {
     Blank,

@@ -5,7 +5,8 @@ use crate::token::Token;
 use ep_logic::List;
 use std::marker::Model;
 
-/// The tokens of a text in order, at most 262,144, and the line of its end.
+/// The tokens of a text in order, at most 262,144, which contracts see as their list beside the line of the text's end.
+/// Its methods take no memory.
 #[derive(Debug, Drop)]
 pub struct TokenList {
     items: List<Token>,

@@ -6,7 +6,7 @@ use crate::memory::OutOfMemory;
 use std::alloc::Global;
 use std::marker::Model;
 
-/// A row of truth values, which contracts see as their list.
+/// A row of truth values in words of 64 bits, which contracts see as their list.
 #[derive(Debug, Drop)]
 pub struct Bits {
     words: Vec<u64>,
@@ -25,6 +25,7 @@ impl Model for Bits {
 }
 
 impl Bits {
+    /// A row of `len` times false.
     pub fn zeros(alloc: Global, len: u32) -> Result<Bits, OutOfMemory>
         ensures { IfOk result (λ b. b ≡ replicate len false) }
     {
@@ -33,12 +34,14 @@ impl Bits {
         Ok(Bits { words, len })
     }
 
+    /// The number of places.
     pub fn len(&self) -> u32
         ensures { result ≡ length self.now }
     {
         self.len
     }
 
+    /// The value at a place.
     pub fn get(&self, i: u32) -> bool
         requires { i < length self.now }
         ensures { result ≡ slice_index_or self.now i false }
@@ -46,6 +49,7 @@ impl Bits {
         get_bit(&self.words, i)
     }
 
+    /// Writes the value at a place.
     pub fn set(&mut self, i: u32, v: bool)
         requires { i < length self.old }
         ensures { self.new ≡ slice_set self.old i v }
@@ -53,6 +57,7 @@ impl Bits {
         set_bit(&mut self.words, i, v);
     }
 
+    /// Keeps true what is true in both rows.
     pub fn and_with(&mut self, other: &Bits)
         requires { length self.old ≡ length other.now }
         ensures { self.new ≡ both self.old other.now }
@@ -60,6 +65,7 @@ impl Bits {
         and_words(&mut self.words, &other.words);
     }
 
+    /// Whether each place that is true here is true in the other row.
     pub fn subset(&self, other: &Bits) -> bool
         requires { length self.now ≡ length other.now }
         ensures { IsTrue result ↔ Within self.now other.now }
@@ -67,6 +73,7 @@ impl Bits {
         is_within(&self.words, &other.words)
     }
 
+    /// A second row with these values.
     pub fn copy(&self, alloc: Global) -> Result<Bits, OutOfMemory>
         ensures { IfOk result (λ b. b ≡ self.now) }
     {

@@ -9,6 +9,8 @@ pub mod ids;
 pub mod list;
 pub mod memory;
 pub mod steps;
+#[cfg(test)]
+mod tests;
 pub mod text;
 
 pub use agents::Agents;

@@ -1,5 +1,5 @@
--- Formulas and actions whose agents and atoms are those of a state.
-use Rattle.std.specs.Prelude.{◌≡◌, ℕ, ◌<◌, Bool, true, ◌&&◌, nat_lt, List, drop, length, IsTrue, sum_by}
+-- Formulas and actions whose agents and atoms are those of a state. This project's own.
+use Rattle.std.specs.Prelude.{◌≡◌, ℕ, ◌<◌, Bool, true, ◌&&◌, nat_lt, drop, length, IsTrue, sum_by}
 use Rattle.std.specs.List.{AllByRecursion, list_all}
 use Rattle.ep_logic.specs.AgentSets.{is_nobody}
 use Rattle.ep_logic.specs.declared.formula.Node.{Node}

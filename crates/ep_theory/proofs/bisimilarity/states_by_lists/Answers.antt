@@ -1,0 +1,5 @@
+use Rattle.ep_theory.proofs.Listed.{listed_states}
+use Rattle.ep_theory.proofs.bisimilarity.states_by_lists.Goals as goal
+
+pub returns : goal.returns
+returns c = listed_states

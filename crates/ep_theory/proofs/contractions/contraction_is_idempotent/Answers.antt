@@ -1,0 +1,5 @@
+use Rattle.ep_theory.proofs.Laws.{contraction_once}
+use Rattle.ep_theory.proofs.contractions.contraction_is_idempotent.Goals as goal
+
+pub returns : goal.returns
+returns c = contraction_once

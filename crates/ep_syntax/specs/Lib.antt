@@ -1,0 +1,9 @@
+pub mod Terminals
+pub mod Marks
+pub mod Spelling
+pub mod Formed
+pub mod Bare
+pub mod Grammar
+pub mod Reading
+pub mod FormulaReading
+pub mod Gives

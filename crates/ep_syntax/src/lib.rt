@@ -1,8 +1,16 @@
 //! Trees of the task language, their reader and their layout.
 #![tactic(auto)]
 
+mod atom;
+mod error;
+mod formula;
+mod parse;
+mod reader;
+pub mod terminal;
 pub mod tree;
 
+pub use error::SyntaxError;
+pub use terminal::Terminal;
 pub use tree::{
     AtomTree, BodyTree, CallTree, EventTree, FluentTree, FormulaTree, GroupTree, InitTree,
     LinkTree, Name, ObjectTree, PairTree, PairsTree, ParamTree, PlanTree, SchemaTree, SeesTree,

@@ -1,0 +1,7 @@
+pub mod Sources
+pub mod Loops
+pub mod MarkLists
+pub mod Laws
+pub mod Readers
+pub mod ListLaws
+pub mod FormulaSteps

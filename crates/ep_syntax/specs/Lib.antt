@@ -7,3 +7,5 @@ pub mod Grammar
 pub mod Reading
 pub mod FormulaReading
 pub mod Gives
+pub mod Layout
+pub mod Printing

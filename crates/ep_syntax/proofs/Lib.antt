@@ -5,3 +5,4 @@ pub mod Laws
 pub mod Readers
 pub mod ListLaws
 pub mod FormulaSteps
+pub mod PrintedLemmas

@@ -5,6 +5,7 @@ mod atom;
 mod error;
 mod formula;
 mod parse;
+mod print;
 mod printer;
 mod reader;
 pub mod terminal;

@@ -1,3 +1,4 @@
+pub mod PrintedLemmas
 pub mod Sources
 pub mod Loops
 pub mod MarkLists
@@ -5,4 +6,4 @@ pub mod Laws
 pub mod Readers
 pub mod ListLaws
 pub mod FormulaSteps
-pub mod PrintedLemmas
+pub mod AtomLaws

@@ -5,9 +5,11 @@ ghost use Rattle.std.specs.List.{flat_map};
 ghost use Rattle.ep_syntax.specs.Printing.{written};
 ghost use Rattle.ep_syntax.specs.Spelling as spell;
 
+mod atom;
+mod formula;
+
 use crate::printer::Printer;
 use crate::terminal::Terminal;
-use crate::tree::{AtomTree, GroupTree, Name, ParamTree};
 use ep_logic::OutOfMemory;
 
 /// A value whose tokens can be written.
@@ -63,28 +65,4 @@ pub fn print_between<T: Print>(
         }
         None => Ok(()),
     }
-}
-
-impl Print for Name {
-    ghost use Rattle.std.specs.Prelude.{[], ◌∷◌};
-    ghost use Rattle.ep_syntax.specs.Marks.{named};
-
-    ghost marks = { λ n. named n ∷ [] };
-
-    fn print(&self, printer: &mut Printer) -> Result<(), OutOfMemory> {
-        printer.name(self)
-    }
-}
-
-/// Nothing, or names in parentheses.
-#[tactic(auto, using(crate::proofs::PrintedLemmas::printed))]
-pub fn print_arguments(names: &[Name], printer: &mut Printer) -> Result<(), OutOfMemory>
-    ensures { OnOk result (printer.new ≡ written printer.old (spell.arguments names.now)) }
-{
-    if names.is_empty() {
-        return Ok(());
-    }
-    printer.fixed(Terminal::OpenParen)?;
-    print_between(names, Terminal::Comma, printer)?;
-    printer.fixed(Terminal::CloseParen)
 }

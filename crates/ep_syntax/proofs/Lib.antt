@@ -1,3 +1,5 @@
+pub mod PrintedFormulas
+pub mod TreeEquations
 pub mod PrintedLemmas
 pub mod Sources
 pub mod Loops

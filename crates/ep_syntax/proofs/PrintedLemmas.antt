@@ -1,5 +1,5 @@
 -- What is written of one list of tokens behind another.
-use Rattle.std.proofs.Common.{◌≡◌, ℕ, suc, ◌+◌, ◌<◌, List, [], ◌∷◌, ◌++◌, length, map, drop, get_or, refl, sym, ap, ◌∙◌, subst, arith, drop-cons, add-one}
+use Rattle.std.proofs.Common.{◌≡◌, ℕ, suc, ◌+◌, ◌<◌, List, [], ◌∷◌, ◌++◌, length, map, drop, get_or, refl, sym, ap, ◌∙◌, subst, arith, drop-cons, add-one, Result, Ok, Err, OnOk}
 use Rattle.std.specs.List.{flat_map}
 use Rattle.ep_syntax.specs.declared.terminal.Terminal.{Terminal}
 use Rattle.ep_syntax.specs.Marks.{Mark, fixed}
@@ -29,3 +29,12 @@ behind-next t f xs i x p r q whole l e v w left =
     ap (λ z. written z (behind t (map f (drop (i + 1) xs)))) (w ∙ ap (λ z. written z (f x)) v)
     ∙ sym (written-append (write p (text_of t)) (f x) (behind t (map f (drop (i + 1) xs))))
     ∙ ap (λ z. written p (behind t (map f z))) (sym (drop-next xs i x l e)) ∙ left
+
+-- a token, and two lists behind it
+pub written-headed : (start p q r : Printed) (m : Mark) (xs ys : List Mark) → p ≡ write start m.text → q ≡ written p xs → r ≡ written q ys → r ≡ written start (m ∷ (xs ++ ys))
+written-headed start p q r m xs ys e f g =
+    g ∙ ap (λ z. written z ys) (f ∙ ap (λ z. written z xs) e) ∙ sym (written-append (write start m.text) xs ys)
+
+pub on_ok : {A E : Type 0} {P Q : Type 0} (r : Result A E) → (P → Q) → OnOk r P → OnOk r Q
+on_ok (Ok x) f p = f p
+on_ok (Err e) f p = tt

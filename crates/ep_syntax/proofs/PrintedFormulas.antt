@@ -90,4 +90,4 @@ pub printed-parts : (start p q : Printed) (t : Terminal) (parts : List FormulaTr
 printed-parts start p q t parts first rest i e g l left =
     let none : drop i rest ≡ [] = drop_of_length-le rest l in
     subst (PrintsParts start q t) (sym e.0)
-      (prints-parts start p q t first rest g (λ k. ap (λ z. written q (behind t (map (λ f. formula_at f k) z))) (sym none) ∙ left k))
+    (prints-parts start p q t first rest g (λ k. ap (λ z. written q (behind t (map (λ f. formula_at f k) z))) (sym none) ∙ left k))

@@ -4,9 +4,13 @@ ghost use Rattle.std.specs.Prelude.{◌≡◌, map, OnOk};
 ghost use Rattle.std.specs.List.{flat_map};
 ghost use Rattle.ep_syntax.specs.Printing.{written};
 ghost use Rattle.ep_syntax.specs.Spelling as spell;
+ghost use Rattle.ep_syntax.specs.declared.terminal.Terminal.TheVariants as the;
 
 mod atom;
 mod formula;
+mod init;
+mod schema;
+mod task;
 
 use crate::printer::Printer;
 use crate::terminal::Terminal;
@@ -65,4 +69,24 @@ pub fn print_between<T: Print>(
         }
         None => Ok(()),
     }
+}
+
+/// The items in braces, one behind another.
+#[tactic(auto, using(crate::proofs::PrintedLemmas::printed))]
+pub fn print_block<T: Print>(items: &[T], printer: &mut Printer) -> Result<(), OutOfMemory>
+    ensures { OnOk result (printer.new ≡ written printer.old (spell.braced (flat_map T.marks items.now))) }
+{
+    printer.fixed(Terminal::OpenBrace)?;
+    print_each(items, printer)?;
+    printer.fixed(Terminal::CloseBrace)
+}
+
+/// The items in braces, with commas between them.
+#[tactic(auto, using(crate::proofs::PrintedLemmas::printed))]
+pub fn print_listed<T: Print>(items: &[T], printer: &mut Printer) -> Result<(), OutOfMemory>
+    ensures { OnOk result (printer.new ≡ written printer.old (spell.braced (spell.between the.Comma (map T.marks items.now)))) }
+{
+    printer.fixed(Terminal::OpenBrace)?;
+    print_between(items, Terminal::Comma, printer)?;
+    printer.fixed(Terminal::CloseBrace)
 }

@@ -4,7 +4,7 @@ ghost use Rattle.std.specs.Prelude.{◌≡◌, OnOk};
 ghost use Rattle.ep_syntax.specs.Printing.{written};
 ghost use Rattle.ep_syntax.specs.Spelling as spell;
 
-use crate::print::{Print, print_between};
+use crate::print::{Print, print_between, print_listed};
 use crate::printer::Printer;
 use crate::terminal::Terminal;
 use crate::tree::{AtomTree, GroupTree, Name, ParamTree};
@@ -46,16 +46,6 @@ impl Print for AtomTree {
     }
 }
 
-/// Atoms with commas between them, in braces.
-#[tactic(auto, using(crate::proofs::PrintedLemmas::printed))]
-pub fn print_atoms(atoms: &[AtomTree], printer: &mut Printer) -> Result<(), OutOfMemory>
-    ensures { OnOk result (printer.new ≡ written printer.old (spell.braced (spell.atoms atoms.now))) }
-{
-    printer.fixed(Terminal::OpenBrace)?;
-    print_between(atoms, Terminal::Comma, printer)?;
-    printer.fixed(Terminal::CloseBrace)
-}
-
 impl Print for GroupTree {
     ghost use Rattle.ep_syntax.specs.Spelling.{group};
 
@@ -65,11 +55,7 @@ impl Print for GroupTree {
     fn print(&self, printer: &mut Printer) -> Result<(), OutOfMemory> {
         match self {
             GroupTree::All { token: _ } => printer.fixed(Terminal::All),
-            GroupTree::Members { token: _, names } => {
-                printer.fixed(Terminal::OpenBrace)?;
-                print_between(names.as_slice(), Terminal::Comma, printer)?;
-                printer.fixed(Terminal::CloseBrace)
-            }
+            GroupTree::Members { token: _, names } => print_listed(names.as_slice(), printer),
         }
     }
 }

@@ -55,7 +55,7 @@ fn print_parts(
 
 #[cycle(print_formula)]
 #[tactic(auto, using(crate::proofs::PrintedLemmas::printed))]
-pub fn print_formula(formula: &FormulaTree, printer: &mut Printer) -> Result<(), OutOfMemory>
+fn print_formula(formula: &FormulaTree, printer: &mut Printer) -> Result<(), OutOfMemory>
     ensures { OnOk result ((k : ℕ) → printer.new ≡ written printer.old (spell.formula_at formula.now k)) }
 {
     match formula {
@@ -122,5 +122,15 @@ pub fn print_formula(formula: &FormulaTree, printer: &mut Printer) -> Result<(),
             print_parts(parts.as_slice(), Terminal::Or, printer)?;
             printer.fixed(Terminal::CloseParen)
         }
+    }
+}
+
+impl Print for FormulaTree {
+    ghost use Rattle.ep_syntax.specs.Spelling.{formula};
+
+    ghost marks = { formula };
+
+    fn print(&self, printer: &mut Printer) -> Result<(), OutOfMemory> {
+        print_formula(self, printer)
     }
 }

@@ -7,4 +7,4 @@ use Rattle.ep_syntax.proofs.print.formula.+print_formula.Given as goal
 abbrev pub invariant-print_parts-loop-part : goal.invariant-print_parts-loop-part
 invariant-print_parts-loop-part l =
     (k : ℕ) → written l.printer (behind l.terminal (map (λ p. formula_at p k) (drop l.part-index l.rest)))
-      ≡ written l.initial.printer (behind l.terminal (map (λ p. formula_at p k) l.rest))
+    ≡ written l.initial.printer (behind l.terminal (map (λ p. formula_at p k) l.rest))

@@ -1,3 +1,4 @@
+pub mod LaidOutLemmas
 pub mod PrintedFormulas
 pub mod TreeEquations
 pub mod PrintedLemmas

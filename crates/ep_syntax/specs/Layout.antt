@@ -30,7 +30,7 @@ laid_behind first [] = 10 ∷ []
 laid_behind first (second ∷ more) = gap first second ∷ (second ++ laid_behind second more)
 
 abbrev pub laid_out : List (List ℕ) → List ℕ
-laid_out [] = []
+laid_out [] = 10 ∷ []
 laid_out (first ∷ more) = first ++ laid_behind first more
 
 -- the layout of a task

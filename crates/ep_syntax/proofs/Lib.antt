@@ -10,3 +10,8 @@ pub mod Readers
 pub mod ListLaws
 pub mod FormulaSteps
 pub mod AtomLaws
+pub mod TreeEquations
+pub mod Layers
+pub mod ParenLaws
+pub mod DeepLaws
+pub mod FormulaLaws

@@ -96,7 +96,7 @@ any_listed_of t g = record { marks = λ xs. between t (map g.marks xs); IsFormed
 
 module _ {A : Type 0} (t : Terminal) (g : Grammar A) (G F : Follow) (item : Reader A) (p : Part g G item)
     (goes : (more : List Token) → G (text_of t ∷ more)) (ends : (ts : List Token) → F ts → G ts) (stops : (ts : List Token) → F ts → Lacks (is t) ts) where
-  behind_part : Part (behind_of t g) G (behind_key t item)
+  pub behind_part : Part (behind_of t g) G (behind_key t item)
   behind_part = record {
     reads = λ n ts. made_all (record { marks = λ _ _. refl; formed = λ _ f. f.1; bare = λ _. refl }) (λ b f. record { from = (0, b); formed = (tt, f); is = refl })
         (then (plain_reads t n ts) p);
@@ -104,10 +104,10 @@ module _ {A : Type 0} (t : Terminal) (g : Grammar A) (G F : Follow) (item : Read
     formed = p.formed;
   }
 
-  rest_part : Part (each_of (behind_of t g)) F (each (is t) (behind_key t item))
+  pub rest_part : Part (each_of (behind_of t g)) F (each (is t) (behind_key t item))
   rest_part = each_part (is t) (behind_of t g) G F (behind_key t item) behind_part (λ _ _ _. is-text_of t) (λ _ more _. goes _) ends stops
 
-  follow_rest : (xs : List A) (after : List Token) → Each g.IsFormed xs → F after → G (texts (flat_map (behind_of t g).marks xs) ++ after)
+  pub follow_rest : (xs : List A) (after : List Token) → Each g.IsFormed xs → F after → G (texts (flat_map (behind_of t g).marks xs) ++ after)
   follow_rest [] after f s = ends after s
   follow_rest (x ∷ xs) after f s = goes _
 

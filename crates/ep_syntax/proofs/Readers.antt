@@ -12,8 +12,8 @@ use Rattle.ep_syntax.specs.Grammar.{Grammar}
 use Rattle.ep_syntax.specs.Marks.{Mark, fixed, held, opening, named, texts}
 use Rattle.ep_syntax.specs.Reading.{Token, Fault, Syntax, TooDeep, Read, Reader, seq, made, is, begins, heads, key, name, name_begins}
 use Rattle.ep_syntax.specs.Terminals.{text_of, is_name}
-use Rattle.ep_syntax.proofs.MarkLists.{Agree, unnumbered}
-use Rattle.ep_syntax.proofs.Laws.{Follow, IsRead, IsRefused, IsTooDeep, IsSame, Outcome, both, seq_outcome, Makes, Made, made_outcome, got, failed, deep, narrow}
+use Rattle.ep_syntax.proofs.MarkLists.{Agree, unnumbered, IsShallowTo, shallow_opens}
+use Rattle.ep_syntax.proofs.Laws.{Follow, IsRead, IsRefused, IsTooDeep, IsSame, Outcome, both, seq_outcome, Makes, Made, made_outcome, got, failed, narrow, far_refused, far_deep}
 
 pub record Reads {A : Type 0} (g : Grammar A) (F : Follow) (n : ℕ) (ts : List Token) (r : Read A) : Type 0 where
   pub holds : Outcome g F n ts r
@@ -226,3 +226,25 @@ names_one = titles None
 
 pub name_part : {F : Follow} → Part names_one F name
 name_part = less_part (title_part None tt)
+
+-- ---- where more than one token tells
+
+-- The first j tokens begin some value with no deep formula there.
+pub record Witness {A : Type 0} (g : Grammar A) (F : Follow) (ts : List Token) (j : ℕ) : Type 0 where
+  pub value : A
+  pub after : List Token
+  pub formed : g.IsFormed value
+  pub may_follow : F after
+  pub agrees : Agree j ts (texts (g.marks value) ++ after)
+  pub shallow : IsShallowTo j (g.marks value)
+
+pub made_far : {A B : Type 0} {g : Grammar A} {h : Grammar B} {F : Follow} {n : ℕ} {ts : List Token} {f : A → B} {r : Read A} (j : ℕ)
+    → Makes g h f → Reads g F n ts r → Witness g F ts j → ((a : A) → j ≤ length (g.marks a))
+    → ((b : B) (more : List Token) → h.IsFormed b → F more → Agree (suc j) ts (texts (h.marks b) ++ more) → Made g f b)
+    → Reads h F n ts (made f r)
+made_far {A} {B} {g} {h} {F} {n} {ts} {f} {r} j makes o w long back = record {
+  holds = made_outcome g h F n ts f makes r o.holds j
+      (λ x e. omega (arith, (got g F n ts r o.holds x e).at, long x.0))
+      (λ m e. far_refused g F n ts m j (failed g F n ts r o.holds m e) w.value w.after w.formed w.may_follow w.agrees)
+      (λ m e d. far_deep g F n ts m j d w.value w.after w.formed w.may_follow w.agrees (λ i l. shallow_opens j i (g.marks w.value) l w.shallow)) back;
+}

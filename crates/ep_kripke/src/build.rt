@@ -1,0 +1,119 @@
+// From links and designated worlds in any order to rows.
+
+ghost use Rattle.std.specs.Prelude.{◌≡◌, ℕ, ◌<◌, ◌≤◌, ◌≢◌, IfOk, length, map, slice_index_or};
+ghost use Rattle.std.specs.List.{AllByRecursion};
+ghost use Rattle.ep_theory.specs.Numbers.{table};
+ghost use Rattle.ep_theory.specs.Rising.{IsRising};
+ghost use Rattle.ep_theory.specs.Kripke.{pair_cmp};
+ghost use Rattle.ep_kripke.specs.Rows.{all_pairs};
+ghost use Rattle.ep_kripke.specs.States.{HaveRows};
+ghost use Rattle.ep_kripke.specs.Parts.{joined_pairs, linked_pairs, named_worlds};
+
+use crate::parts::Link;
+use crate::rows::Rows;
+use ep_logic::{List, OutOfMemory, WorldId};
+use std::alloc::Global;
+
+pub(crate) fn relations_of(
+    alloc: Global,
+    agents: u32,
+    worlds: u32,
+    links: &[Link],
+) -> Result<List<Rows>, OutOfMemory>
+    requires { AllByRecursion (λ l. (l.from.n < worlds) × (l.to.n < worlds)) links.now }
+    ensures pairs { IfOk result (λ relations. map all_pairs relations ≡ table (linked_pairs links.now) agents) }
+    ensures rows { IfOk result (HaveRows worlds) }
+{
+    let mut relations = List::new(alloc);
+    for agent in 0..agents {
+        relations.push(relation(alloc, agent, worlds, links)?)?;
+    }
+    Ok(relations)
+}
+
+// The successors of each world by the agent's links.
+fn relation(alloc: Global, agent: u32, worlds: u32, links: &[Link]) -> Result<Rows, OutOfMemory>
+    requires { AllByRecursion (λ l. (l.from.n < worlds) × (l.to.n < worlds)) links.now }
+    ensures pairs { IfOk result (λ rows. all_pairs rows ≡ linked_pairs links.now agent) }
+    ensures rows { IfOk result (λ rows. length rows ≡ worlds) }
+{
+    let pairs = pairs_of(alloc, agent, links)?;
+    rows_of(alloc, worlds, &pairs)
+}
+
+fn pairs_of(alloc: Global, agent: u32, links: &[Link]) -> Result<Vec<(u32, u32)>, OutOfMemory>
+    ensures { IfOk result (λ pairs. pairs.items ≡ linked_pairs links.now agent) }
+{
+    let mut pairs = joined(alloc, agent, links)?;
+    pairs.sort_unstable();
+    pairs.dedup();
+    Ok(pairs)
+}
+
+// The pairs of worlds that the agent's links join, as they come.
+fn joined(alloc: Global, agent: u32, links: &[Link]) -> Result<Vec<(u32, u32)>, OutOfMemory>
+    ensures { IfOk result (λ pairs. pairs.items ≡ joined_pairs links.now agent) }
+{
+    Ok(
+        links
+            .iter()
+            .filter(|link| link.agent.n == agent)
+            .map(|link| (link.from.n, link.to.n))
+            .collect(alloc)?,
+    )
+}
+
+// Pairs in rising order, as a row for each world.
+fn rows_of(alloc: Global, worlds: u32, pairs: &[(u32, u32)]) -> Result<Rows, OutOfMemory>
+    requires rising { IsRising pair_cmp pairs.now }
+    requires within { AllByRecursion (λ p. p.0 < worlds) pairs.now }
+    ensures pairs { IfOk result (λ rows. all_pairs rows ≡ pairs.now) }
+    ensures rows { IfOk result (λ rows. length rows ≡ worlds) }
+{
+    let mut rows = Rows::new(alloc);
+    let mut at = 0;
+    for world in 0..worlds {
+        let end = end_of(pairs, at, world);
+        let row = seconds(alloc, &pairs[at..end])?;
+        rows.push(&row)?;
+        at = end;
+    }
+    Ok(rows)
+}
+
+// Where the pairs of a world end that begin at a place.
+fn end_of(pairs: &[(u32, u32)], at: usize, world: u32) -> usize
+    requires { at ≤ length pairs.now }
+    ensures from { at ≤ result }
+    ensures to { result ≤ length pairs.now }
+    ensures these { (k : ℕ) → at ≤ k → k < result → (slice_index_or pairs.now k (0, 0)).0 ≡ world }
+    ensures next { result < length pairs.now → (slice_index_or pairs.now result (0, 0)).0 ≢ world }
+{
+    let mut end = at;
+    while end < pairs.len() && pairs[end].0 == world {
+        end += 1;
+    }
+    end
+}
+
+fn seconds(alloc: Global, pairs: &[(u32, u32)]) -> Result<Vec<u32>, OutOfMemory>
+    ensures { IfOk result (λ v. v.items ≡ map (λ p. p.1) pairs.now) }
+{
+    Ok(pairs.iter().map(|pair| pair.1).collect(alloc)?)
+}
+
+// The worlds of a list, each once, in rising order.
+pub(crate) fn named_of(alloc: Global, worlds: &[WorldId]) -> Result<List<u32>, OutOfMemory>
+    ensures { IfOk result (λ numbers. numbers ≡ named_worlds worlds.now) }
+{
+    let mut numbers = numbers_of(alloc, worlds)?;
+    numbers.sort_unstable();
+    numbers.dedup();
+    Ok(List::from_vec(numbers))
+}
+
+fn numbers_of(alloc: Global, worlds: &[WorldId]) -> Result<Vec<u32>, OutOfMemory>
+    ensures { IfOk result (λ v. v.items ≡ map (λ w. w.n) worlds.now) }
+{
+    Ok(worlds.iter().map(|world| world.n).collect(alloc)?)
+}

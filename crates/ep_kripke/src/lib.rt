@@ -1,0 +1,13 @@
+//! Finite Kripke states with several designated worlds.
+#![tactic(auto)]
+
+mod build;
+mod parts;
+mod rows;
+mod state;
+#[cfg(test)]
+mod tests;
+
+pub use parts::{Link, StateError, StateParts};
+pub use rows::Rows;
+pub use state::State;

@@ -1,0 +1,5 @@
+pub mod FitLemmas
+pub mod LabelLemmas
+pub mod SourceLemmas
+pub mod TakingLemmas
+pub mod CommonLemmas

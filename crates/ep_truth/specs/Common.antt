@@ -1,0 +1,24 @@
+-- The worlds from which every walk of a group stays in a row.
+use Rattle.std.specs.Prelude.{◌≡◌, ℕ, ◌+◌, ◌<◌, ◌↔◌, ◌⊎◌, Bool, not, List, [], ◌∷◌, IsTrue, if◌then◌else◌}
+use Rattle.ep_logic.specs.AgentSets.{Has}
+use Rattle.ep_theory.specs.Rising.{IsIn}
+use Rattle.ep_theory.specs.Kripke.{Kripke, links_of}
+use Rattle.ep_theory.specs.Walks.{IsStep, IsWalk, last_of}
+use Rattle.ep_truth.specs.Labels.{value_at}
+use Rattle.ep_truth.specs.Sources.{row_at}
+
+-- every walk of the group from the world ends where the row is true
+abbrev pub AllWalks : Kripke → List Bool → List Bool → ℕ → Type 0
+AllWalks S g row w = (vs : List ℕ) → IsWalk S g w vs → IsTrue (value_at row (last_of w vs))
+
+-- the agent's links are among the sources, beside those that were
+abbrev pub GainsLinks : Kripke → ℕ → List (List ℕ) → List (List ℕ) → Type 0
+GainsLinks S a old new = (w v : ℕ) → v < S.worlds → IsIn w (row_at new v) ↔ (IsIn w (row_at old v) ⊎ IsIn (w, v) (links_of S a))
+
+-- the sources of each world are those from which the group steps to it
+abbrev pub LeadBack : Kripke → List Bool → List (List ℕ) → Type 0
+LeadBack S g rows = (w v : ℕ) → v < S.worlds → IsIn w (row_at rows v) ↔ IsStep S g w v
+
+-- whether the row is false at the place
+abbrev pub is_out : List Bool → ℕ → Bool
+is_out row w = not (value_at row w)

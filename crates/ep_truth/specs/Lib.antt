@@ -1,0 +1,4 @@
+pub mod Labels
+pub mod Sources
+pub mod Taking
+pub mod Common

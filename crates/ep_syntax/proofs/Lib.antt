@@ -1,7 +1,9 @@
-pub mod LaidOutLemmas
-pub mod PrintedFormulas
-pub mod TreeEquations
 pub mod PrintedLemmas
+pub mod PrintedFormulas
+pub mod LaidOutLemmas
+pub mod LayoutTokens
+pub mod SpelledFormulas
+pub mod SpelledTasks
 pub mod Sources
 pub mod Loops
 pub mod MarkLists

@@ -4,6 +4,7 @@
 mod atom;
 mod error;
 mod formula;
+pub mod layout;
 mod parse;
 mod print;
 mod printer;

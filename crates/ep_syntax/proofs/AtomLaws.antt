@@ -33,7 +33,7 @@ pub within_reads : {A : Type 0} {g : Grammar A} {F : Follow} {item : Reader A} (
     → Reads (within_of left g right) F n ts (within left item right n ts)
 within_reads {A} {g} {F} {item} left right p n ts =
     made_all (record { marks = λ _ _. refl; formed = λ _ f. f.0.1; bare = λ _. refl }) (λ b f. record { from = ((0, b), 0); formed = ((tt, f), tt); is = refl })
-      (pair (then (plain_reads left n ts) p) (plain_part right) (λ _ _ _ _. is-text_of right))
+    (pair (then (plain_reads left n ts) p) (plain_part right) (λ _ _ _ _. is-text_of right))
 
 pub within_part : {A : Type 0} {g : Grammar A} {F : Follow} {item : Reader A} (left right : Terminal) → Part g (Next right) item → Part (within_of left g right) F (within left item right)
 within_part left right p = record { reads = within_reads left right p; value = p.value; formed = p.formed }
@@ -156,7 +156,7 @@ unfolding group members_shape
 group_reads n ts = either (begins the.All ts)
     (λ e. made_by (record { marks = λ _ _. refl; formed = λ _ _. refl; bare = λ _. refl }) (placed_reads the.All n ts) (group_all_back ts e))
     (λ e. made_by (record { marks = λ _ _. refl; formed = λ a f. list_all-each formed_name a.0.1 f.0.1; bare = λ _. refl })
-      (pair (then (placed_reads the.OpenBrace n ts) (any_names_part the.CloseBrace refl refl)) (plain_part the.CloseBrace) (λ _ _ _ _. refl)) (group_members_back ts e))
+    (pair (then (placed_reads the.OpenBrace n ts) (any_names_part the.CloseBrace refl refl)) (plain_part the.CloseBrace) (λ _ _ _ _. refl)) (group_members_back ts e))
 
 pub group_part : {F : Follow} → Part groups_one F group
 group_part = less_part (record { reads = group_reads; value = group_tree.All 0; formed = refl })

@@ -157,7 +157,7 @@ parts_open : (t : Terminal) (ps : List FormulaTree) → formed_parts 2 (map form
 parts_open t [] f = absurd (false≢true f)
 parts_open t (p ∷ ps) f =
     Opens-more 0 (formula_at p 65 ++ behind t (map (λ p. formula_at p 65) ps)) (fixed the.CloseParen ∷ [])
-      (Opens-more 0 (formula_at p 65) (behind t (map (λ p. formula_at p 65) ps)) (formula_opens 65 p))
+    (Opens-more 0 (formula_at p 65) (behind t (map (λ p. formula_at p 65) ps)) (formula_opens 65 p))
 
 -- a name in parentheses, and what may follow it
 beginning_behind : (u : Token) → is_name u ≡ true → (t : Terminal) → follows (text_of t) ≡ true → Beginning 64 (text_of the.OpenParen ∷ u ∷ text_of t ∷ [])

@@ -16,12 +16,12 @@ use Rattle.ep_syntax.specs.declared.tree.FormulaTree.TheVariants as tree
 use Rattle.ep_syntax.specs.Formed.{Each, OneOrMore, formed_formula, formed_param, formed_params, formed_parts, IsFormedFormula, IsFormedName, IsFormedParam}
 use Rattle.ep_syntax.specs.FormulaReading.{is_equality, follows, deep_name, opened, not_of, knows_of, common_of, forall_of, exists_of, starter_of, starter, by_terminal, by_token, starts_formula, too_deep, formula, equality, inside, atom, group, params}
 use Rattle.ep_syntax.specs.Marks.{Mark, fixed, opening, named, texts, nesting_at}
-use Rattle.ep_syntax.specs.Reading.{Token, Fault, Syntax, TooDeep, Read, Reader, seq, made, is, begins, heads, key, name, name_begins}
+use Rattle.ep_syntax.specs.Reading.{Token, Fault, Syntax, TooDeep, Read, Reader, seq, made, is, begins, heads, key, name, name_begins, whole}
 use Rattle.ep_syntax.specs.Spelling.{behind, between, formula_at}
 use Rattle.ep_syntax.specs.Spelling as spell
 use Rattle.ep_syntax.specs.Terminals.{text_of, is_name}
 use Rattle.ep_syntax.proofs.AtomLaws.{NotOpen, atoms_at, atom_reads, groups_one, group_part, params_of, params_part, some_param, each-list_all, list_all-each, and_true}
-use Rattle.ep_syntax.proofs.Laws.{Follow, IsRead, IsRefused, IsTooDeep, both, both_then, Makes, Made}
+use Rattle.ep_syntax.proofs.Laws.{Follow, Outcome, both, both_then, Makes, Made}
 use Rattle.ep_syntax.proofs.Layers.{Layer, formulas_at, first_text, first_mark, rest_marks, rest_texts, marks-out, texts-out, formed-out, formed-roll, lead, lead-first, is_lead, name-first, starter-text, some_formula, no_reads, end_reads}
 use Rattle.ep_syntax.proofs.ListLaws.{Agree-heads}
 use Rattle.ep_syntax.proofs.MarkLists.{Agree, IsShallowTo, Opens, Opens-more}
@@ -31,6 +31,8 @@ use Rattle.ep_syntax.proofs.Readers.{Reads, Part, Any, pair, then, made_by, eith
 use Rattle.ep_syntax.proofs.Readers as reader
 use Rattle.ep_syntax.proofs.Sources.{both_true}
 use Rattle.ep_syntax.proofs.TreeEquations as eq
+use Rattle.ep_syntax.proofs.Whole.{IsEmpty, whole_outcome}
+use Rattle.ep_syntax.specs.Grammar.{formulas}
 
 list_formed : (ps : List ParamTree) → OneOrMore IsFormedParam ps → formed_params ps ≡ true
 list_formed [] f = absurd f
@@ -160,3 +162,6 @@ formula_part (suc depth) k all = record {
   value = tree.True 0;
   formed = some_formula;
 }
+
+pub formula_outcome : (ts : List Token) → Outcome formulas IsEmpty 0 ts (whole (formula 64) 0 ts)
+formula_outcome ts = whole_outcome (formula_part 64 1 refl) refl ts

@@ -17,3 +17,4 @@ pub mod Layers
 pub mod ParenLaws
 pub mod DeepLaws
 pub mod FormulaLaws
+pub mod Whole

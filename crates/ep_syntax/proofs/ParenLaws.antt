@@ -94,7 +94,7 @@ module _ (k : ℕ) (item : Reader FormulaTree) (p : Part (formulas_at k) NotOpen
         let stops = next_lacks the.CloseParen (is t) e in
         record {
           reads = λ n ts. made_all (record { marks = λ _ _. refl; formed = λ _ f. f; bare = λ _. refl }) (some_behind_back t (formulas_at k))
-            (pair ((behind_part t (formulas_at k) NotOpen (Next the.CloseParen) item p goes ends stops).reads n ts)
+              (pair ((behind_part t (formulas_at k) NotOpen (Next the.CloseParen) item p goes ends stops).reads n ts)
               (rest_part t (formulas_at k) NotOpen (Next the.CloseParen) item p goes ends stops)
               (follow_rest t (formulas_at k) NotOpen (Next the.CloseParen) item p goes ends stops));
           value = tree.True 0 ∷ [];
@@ -323,11 +323,11 @@ module _ (k : ℕ) (l : k ≤ 64) (n : ℕ) (x : Token) (d : is_name x ≡ false
         let b : AtomTree = record { name = record { token = 0; text = u }; args = [] } in
         let marks = eq.formula_at-Atom b (suc k) in
         inside_by (u ∷ us) 2 (omega arith) (λ c more f a. false≢true (sym g ∙ Agree-heads (is the.Equals) us _ a.1))
-          (record {
-            value = ((0, tree.Atom b), closed);
-            after = [];
-            formed = ((tt, eq.formed-Atom b ∙ and_true _ _ e refl), tt);
-            may_follow = tt;
-            agrees = (starter-text x the.OpenParen s, rw marks (refl, tt));
-            shallow = (l, rw marks (m, tt));
-          })
+        (record {
+          value = ((0, tree.Atom b), closed);
+          after = [];
+          formed = ((tt, eq.formed-Atom b ∙ and_true _ _ e refl), tt);
+          may_follow = tt;
+          agrees = (starter-text x the.OpenParen s, rw marks (refl, tt));
+          shallow = (l, rw marks (m, tt));
+        })

@@ -3,7 +3,7 @@ use Rattle.std.proofs.Common.{◌≡◌, ℕ, zero, suc, ◌+◌, ◌-◌, ◌�
 use Rattle.std.specs.Prelude.{nat_le, slice_get, not, ◌==◌}
 use Rattle.std.specs.List.{list_all}
 use Rattle.std.specs.Option.{option_map}
-use Rattle.std.proofs.lemmas.Bool.{false≢true, leb-true}
+use Rattle.std.proofs.lemmas.Bool.{false≢true, leb-true, le-leb}
 use Rattle.std.proofs.lemmas.Bool.Decides.{nat_tests}
 use Rattle.std.proofs.lemmas.List.{drop-drop}
 use Rattle.std.proofs.lemmas.Option.{slice_get-map}
@@ -11,7 +11,8 @@ use Rattle.ep_lex.specs.declared.token.Token.{Token as Lexeme}
 use Rattle.ep_lex.specs.declared.token.TokenKind.TheVariants as kind
 use Rattle.ep_lex.specs.declared.token.PieceKind.TheVariants as piece
 use Rattle.ep_lex.specs.Pieces.{is_piece, is_letter, is_digit, is_mark, is_mark_byte, is_word_byte}
-use Rattle.ep_lex.specs.Tokens.{spelling, spellings}
+use Rattle.ep_lex.specs.Tokens.{spelling, spellings, AreTokens}
+use Rattle.ep_lex.proofs.TokenLaws.{IsSpelled, token-spelled}
 use Rattle.ep_syntax.specs.Terminals.{is_name}
 use Rattle.ep_syntax.specs.Gives.{is_sound, all_sound}
 use Rattle.ep_syntax.specs.declared.terminal.Terminal.{Terminal}
@@ -34,6 +35,16 @@ within_at bytes lexemes i t s e = leb-true _ _ (both_true _ _ (sound_at bytes le
 
 pub piece_at : (bytes : List ℕ) (lexemes : List Lexeme) (i : ℕ) (t : Lexeme) → all_sound bytes lexemes ≡ true → slice_get lexemes i ≡ Some t → is_piece (piece.Spelling t.kind) (spelling bytes t) ≡ true
 piece_at bytes lexemes i t s e = (both_true _ _ (sound_at bytes lexemes i t s e)).1
+
+sound_all : (bytes : List ℕ) (lexemes : List Lexeme) → ((i : ℕ) (t : Lexeme) → slice_get lexemes i ≡ Some t → IsSpelled bytes t) → all_sound bytes lexemes ≡ true
+sound_all bytes [] h = refl
+sound_all bytes (x ∷ xs) h =
+    let s = h 0 x refl in
+    rw (le-leb (x.start + x.len) (length bytes) s.within, s.spelled, sound_all bytes xs (λ i t e. h (suc i) t e)) refl
+
+-- the tokens of a text are sound
+pub sound_tokens : (bytes : List ℕ) (lexemes : List Lexeme) → AreTokens bytes lexemes → all_sound bytes lexemes ≡ true
+sound_tokens bytes lexemes a = sound_all bytes lexemes (token-spelled bytes lexemes a)
 
 pub first_token-drop : (xs : List (List ℕ)) (i : ℕ) → first_token (drop i xs) ≡ slice_get xs i
 first_token-drop [] zero = refl

@@ -9,7 +9,7 @@ use Rattle.ep_syntax.specs.declared.tree.GroupTree.TheVariants as group_tree
 use Rattle.ep_syntax.specs.declared.tree.ParamTree.{ParamTree}
 use Rattle.ep_syntax.specs.declared.tree.FormulaTree.{FormulaTree}
 use Rattle.ep_syntax.specs.declared.tree.FormulaTree.TheVariants as tree
-use Rattle.ep_syntax.specs.Reading.{Token, Fault, Syntax, TooDeep, Read, Reader, seq, made, is, heads, begins, key, name, name_begins, each, front, behind_key, listed, any_listed, within, end}
+use Rattle.ep_syntax.specs.Reading.{Token, Fault, Syntax, TooDeep, Read, Reader, seq, made, is, heads, begins, key, name, name_begins, each, front, behind_key, listed, any_listed, within, whole}
 use Rattle.ep_syntax.specs.Terminals.{is_name}
 
 -- ---- atoms, groups, parameters
@@ -151,9 +151,6 @@ unfoldable pub formula : ℕ → Reader FormulaTree
 formula zero = too_deep
 formula (suc depth) = by_token (depth == 0) (formula depth)
 
-abbrev pub first_of : {A B : Type 0} → A × B → A
-first_of p = p.0
-
--- a formula by itself, and nothing behind it
+-- a formula by itself
 unfoldable pub whole_formula : Reader FormulaTree
-whole_formula n ts = made first_of (seq (formula 64 n ts) end)
+whole_formula n ts = whole (formula 64) n ts

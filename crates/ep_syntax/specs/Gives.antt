@@ -35,3 +35,8 @@ Stops error.OutOfMemory read = Unit {0}
 abbrev pub Gives : {A : Type 0} → Reader A → Place → Result A SyntaxError → Place → Type 0
 Gives p old (Ok a) new = p old.0 old.1 ≡ Ok (a, new.0, new.1)
 Gives p old (Err e) new = Stops e (p old.0 old.1)
+
+-- the same of a whole text
+abbrev pub Says : {A : Type 0} → Result A SyntaxError → Read A → Type 0
+Says (Ok a) read = (m : ℕ) × (rest : List Token) × (read ≡ Ok (a, m, rest))
+Says (Err e) read = Stops e read

@@ -45,17 +45,18 @@ pub record IsViable {A : Type 0} (g : Grammar A) (tokens : List (List ℕ)) : Ty
   pub formed : g.IsFormed tree
   pub spelled : spelling_of g tree ≡ tokens ++ more
 
--- n is the greatest number such that the first n tokens are viable
+-- n is the viable count: the greatest number such that the first n tokens are viable
 pub record IsViableCount {A : Type 0} (g : Grammar A) (tokens : List (List ℕ)) (n : ℕ) : Type 0 where
   pub within : n ≤ length tokens
   pub viable : IsViable g (take n tokens)
   pub greatest : (k : ℕ) → n < k → k ≤ length tokens → IsViable g (take k tokens) → ⊥
 
--- Token t is below the viable count, and in every text of the kind that begins with the viable tokens it begins
--- a formula of nesting 65.
+-- Some viable front of the tokens, of `count` tokens, has token t, and in every text of the kind that begins with
+-- this front token t begins a formula of nesting 65. So it does in those that begin with a longer one.
 pub record IsDeep {A : Type 0} (g : Grammar A) (tokens : List (List ℕ)) (t : ℕ) : Type 0 where
   pub count : ℕ
-  pub is_count : IsViableCount g tokens count
+  pub within : count ≤ length tokens
+  pub viable : IsViable g (take count tokens)
   pub below : t < count
   pub always : (tree : A) (more : List (List ℕ)) → g.IsFormed tree → spelling_of g tree ≡ take count tokens ++ more
       → nesting_at (g.marks tree) t ≡ Some 65

@@ -1,3 +1,5 @@
+pub mod Layout
+pub mod Printing
 pub mod Terminals
 pub mod Marks
 pub mod Spelling
@@ -7,5 +9,4 @@ pub mod Grammar
 pub mod Reading
 pub mod FormulaReading
 pub mod Gives
-pub mod Layout
-pub mod Printing
+pub mod Answers

@@ -105,3 +105,10 @@ any_listed test t item n ts = if heads test ts then listed t item n ts else Ok (
 abbrev pub end : Reader (Unit {0})
 end n [] = Ok (tt, n, [])
 end n (t ∷ ts) = Err (Syntax n)
+
+abbrev pub first_of : {A B : Type 0} → A × B → A
+first_of p = p.0
+
+-- the value, and nothing behind it
+abbrev pub whole : {A : Type 0} → Reader A → Reader A
+whole p n ts = made first_of (seq (p n ts) end)

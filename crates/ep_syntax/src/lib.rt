@@ -8,11 +8,13 @@ pub mod layout;
 mod parse;
 mod print;
 mod printer;
+mod read;
 mod reader;
 pub mod terminal;
 pub mod tree;
 
 pub use error::SyntaxError;
+pub use read::read_formula;
 pub use terminal::Terminal;
 pub use tree::{
     AtomTree, BodyTree, CallTree, EventTree, FluentTree, FormulaTree, GroupTree, InitTree,

@@ -18,3 +18,4 @@ pub mod ParenLaws
 pub mod DeepLaws
 pub mod FormulaLaws
 pub mod Whole
+pub mod Readable

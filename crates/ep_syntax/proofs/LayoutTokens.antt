@@ -66,6 +66,7 @@ spellings-laid_out (first ∷ more) ts a t =
 
 pub some-laid_out : (tokens : List (List ℕ)) → AreSpellings tokens → (ts : List Lexeme) × AreTokens (laid_out tokens) ts
 some-laid_out [] a = ([], record { pieces = record { kind = Blank; text = 10 ∷ [] } ∷ []; split = blank_split; tokens_are = refl })
-some-laid_out (first ∷ more) a =
-    (tokens_behind [] (laid_pieces (labelled first more)),
-      record { pieces = laid_pieces (labelled first more); split = layout_split first more a.0 a.1; tokens_are = refl })
+some-laid_out (first ∷ more) a = (
+  tokens_behind [] (laid_pieces (labelled first more)),
+  record { pieces = laid_pieces (labelled first more); split = layout_split first more a.0 a.1; tokens_are = refl },
+)

@@ -13,7 +13,6 @@ use Rattle.ep_syntax.proofs.Whole.{IsEmpty, said_read, said_only, said_deep}
 
 module _ {A : Type 0} (g : Grammar A) (ts : List Token) (p : Reader A) (o : Outcome g IsEmpty 0 ts (whole p 0 ts))
     (tree : A) (formed : g.IsFormed tree) (shallow : IsShallow (g.marks tree)) (spelled : spelling_of g tree ≡ ts) where
-
   agrees : (n : ℕ) → Agree n ts (spelling_of g tree ++ [])
   agrees n = subst (λ z. Agree n ts z) (sym (append-nil (spelling_of g tree) ∙ spelled)) (Agree-same n ts)
 

@@ -52,7 +52,7 @@ types (Some ts) f = (refl, spelled-braced (flat_map spell.type_entry ts) (spelle
 object_entry : (o : ObjectTree) → IsFormedObject o → AreSpelled (spell.object_entry o)
 object_entry o f =
     spelled-append (spell.names o.names) (fixed the.Colon ∷ named o.kind ∷ fixed the.Semicolon ∷ []) (spelled-names o.names (each-some IsFormedName o.names f.0))
-      (refl, (spelled_name o.kind f.1, (refl, tt)))
+    (refl, (spelled_name o.kind f.1, (refl, tt)))
 
 objects : (os : List ObjectTree) → Each IsFormedObject os → AreSpelled (spell.objects os)
 objects os f = (refl, spelled-braced (flat_map spell.object_entry os) (spelled-flat_map IsFormedObject spell.object_entry object_entry os f))
@@ -99,13 +99,19 @@ sees s f = (refl, spelled-append (spell.group s.group) (spell.braced (spell.atom
 init_items : (i : InitTree) → IsFormedInit i → AreSpelled (spell.init_items i)
 init_items (Explicit worlds ns ls) f =
     spelled-append (flat_map spell.world worlds) (spell.designated ns ++ flat_map spell.link ls) (spelled-flat_map IsFormedWorld spell.world world worlds (each-some IsFormedWorld worlds f.0))
-      (spelled-append (spell.designated ns) (flat_map spell.link ls) (designated ns f.1) (links ls f.2))
-init_items (Lawful vary fs law ss g) f =
-    (refl, spelled-append (spell.braced (spell.atoms vary)) _ (atoms vary f.0)
-      (spelled-append (spell.facts fs) _ (facts fs f.1)
-        (refl, spelled-append (spell.formula law) _ (formula law f.2)
-          (refl, spelled-append (flat_map spell.sees ss) _ (spelled-flat_map IsFormedSees spell.sees sees ss f.3)
-            (refl, sentence g f.4)))))
+    (spelled-append (spell.designated ns) (flat_map spell.link ls) (designated ns f.1) (links ls f.2))
+init_items (Lawful vary fs law ss g) f = (
+  refl,
+  spelled-append (spell.braced (spell.atoms vary)) _ (atoms vary f.0)
+      (spelled-append (spell.facts fs) _ (facts fs f.1) (
+        refl,
+        spelled-append (spell.formula law) _ (formula law f.2) (
+          refl,
+          spelled-append (flat_map spell.sees ss) _ (spelled-flat_map IsFormedSees spell.sees sees ss f.3)
+              (refl, sentence g f.4),
+        ),
+      )),
+)
 
 init : (i : InitTree) → IsFormedInit i → AreSpelled (spell.init i)
 init i f = (refl, spelled-braced (spell.init_items i) (init_items i f))
@@ -133,7 +139,7 @@ body (Sense what g) f = (refl, news the.By what g (refl, tt) f.0 f.1)
 body (Assign guard ss) f = (refl, (refl, spelled-append (spell.formula guard) (spell.sets ss) (formula guard f.0) (sets ss f.1)))
 body (Events events ns ls) f =
     spelled-append (flat_map spell.event events) (spell.designated ns ++ flat_map spell.link ls) (spelled-flat_map IsFormedEvent spell.event event events (each-some IsFormedEvent events f.0))
-      (spelled-append (spell.designated ns) (flat_map spell.link ls) (designated ns f.1) (links ls f.2))
+    (spelled-append (spell.designated ns) (flat_map spell.link ls) (designated ns f.1) (links ls f.2))
 
 distinct : (d : Bool) → AreSpelled (spell.distinct d)
 distinct true = (refl, tt)
@@ -144,21 +150,33 @@ signature [] d f = tt
 signature (p ∷ ps) d f = (refl, spelled-append (spell.params (p ∷ ps)) (fixed the.CloseParen ∷ spell.distinct d) (spelled-params (p ∷ ps) f) (refl, distinct d))
 
 schema : (s : SchemaTree) → IsFormedSchema s → AreSpelled (spell.schema s)
-schema s f =
-    (refl, (spelled_name s.name f.0, spelled-append (spell.signature s.params s.distinct) (spell.braced (spell.body s.body)) (signature s.params s.distinct f.1)
-      (spelled-braced (spell.body s.body) (body s.body f.2))))
+schema s f = (
+  refl,
+  (
+    spelled_name s.name f.0,
+    spelled-append (spell.signature s.params s.distinct) (spell.braced (spell.body s.body)) (signature s.params s.distinct f.1)
+        (spelled-braced (spell.body s.body) (body s.body f.2)),
+  ),
+)
 
 -- ---- whole tasks
 
 task : (t : TaskTree) → IsFormedTask t → AreSpelled (spell.task t)
-task t f =
-    (refl, (spelled_name t.name f.0, (refl,
+task t f = (
+  refl,
+  (
+    spelled_name t.name f.0,
+    (
+      refl,
       spelled-append (spell.types t.types) _ (types t.types f.1)
-        (spelled-append (spell.objects t.objects) _ (objects t.objects f.2)
+          (spelled-append (spell.objects t.objects) _ (objects t.objects f.2)
           (spelled-append (spell.fluents t.fluents) _ (fluents t.fluents f.3)
-            (spelled-append (spell.init t.init) _ (init t.init f.4)
-              (spelled-append (flat_map spell.schema t.schemas) _ (spelled-flat_map IsFormedSchema spell.schema schema t.schemas f.5)
-                (refl, sentence t.goal f.6))))))))
+          (spelled-append (spell.init t.init) _ (init t.init f.4)
+          (spelled-append (flat_map spell.schema t.schemas) _ (spelled-flat_map IsFormedSchema spell.schema schema t.schemas f.5)
+          (refl, sentence t.goal f.6))))),
+    ),
+  ),
+)
 
 -- the tokens of a task
 pub spellings-task : (t : TaskTree) → IsFormedTask t → AreSpellings (texts (spell.task t))

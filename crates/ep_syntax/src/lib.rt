@@ -14,6 +14,7 @@ pub mod terminal;
 pub mod tree;
 
 pub use error::SyntaxError;
+pub use print::print_task;
 pub use read::read_formula;
 pub use terminal::Terminal;
 pub use tree::{

@@ -15,6 +15,7 @@ mod task;
 use crate::printer::Printer;
 use crate::terminal::Terminal;
 use ep_logic::OutOfMemory;
+pub use task::print_task;
 
 /// A value whose tokens can be written.
 pub trait Print {

@@ -54,8 +54,8 @@ impl Print for GroupTree {
     #[tactic(auto, using(crate::proofs::PrintedLemmas::printed))]
     fn print(&self, printer: &mut Printer) -> Result<(), OutOfMemory> {
         match self {
-            GroupTree::All { token: _ } => printer.fixed(Terminal::All),
-            GroupTree::Members { token: _, names } => print_listed(names.as_slice(), printer),
+            GroupTree::All { .. } => printer.fixed(Terminal::All),
+            GroupTree::Members { names, .. } => print_listed(names.as_slice(), printer),
         }
     }
 }

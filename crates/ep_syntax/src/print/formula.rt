@@ -59,65 +59,45 @@ fn print_formula(formula: &FormulaTree, printer: &mut Printer) -> Result<(), Out
     ensures { OnOk result ((k : ℕ) → printer.new ≡ written printer.old (spell.formula_at formula.now k)) }
 {
     match formula {
-        FormulaTree::True { token: _ } => printer.fixed(Terminal::True),
-        FormulaTree::False { token: _ } => printer.fixed(Terminal::False),
+        FormulaTree::True { .. } => printer.fixed(Terminal::True),
+        FormulaTree::False { .. } => printer.fixed(Terminal::False),
         FormulaTree::Atom { atom } => atom.print(printer),
-        FormulaTree::Not { token: _, inner } => {
+        FormulaTree::Not { inner, .. } => {
             printer.fixed(Terminal::Not)?;
             print_formula(inner.get(), printer)
         }
-        FormulaTree::Knows {
-            token: _,
-            agent,
-            inner,
-        } => {
+        FormulaTree::Knows { agent, inner, .. } => {
             printer.fixed(Terminal::Knows)?;
             printer.name(agent)?;
             print_formula(inner.get(), printer)
         }
-        FormulaTree::Common {
-            token: _,
-            group,
-            inner,
-        } => {
+        FormulaTree::Common { group, inner, .. } => {
             printer.fixed(Terminal::Common)?;
             group.print(printer)?;
             print_formula(inner.get(), printer)
         }
-        FormulaTree::Forall {
-            token: _,
-            params,
-            inner,
-        } => {
+        FormulaTree::Forall { params, inner, .. } => {
             printer.fixed(Terminal::Forall)?;
             print_params(params.as_slice(), printer)?;
             print_formula(inner.get(), printer)
         }
-        FormulaTree::Exists {
-            token: _,
-            params,
-            inner,
-        } => {
+        FormulaTree::Exists { params, inner, .. } => {
             printer.fixed(Terminal::Exists)?;
             print_params(params.as_slice(), printer)?;
             print_formula(inner.get(), printer)
         }
-        FormulaTree::Equal {
-            token: _,
-            left,
-            right,
-        } => print_equality(left, right, printer),
-        FormulaTree::Paren { token: _, inner } => {
+        FormulaTree::Equal { left, right, .. } => print_equality(left, right, printer),
+        FormulaTree::Paren { inner, .. } => {
             printer.fixed(Terminal::OpenParen)?;
             print_formula(inner.get(), printer)?;
             printer.fixed(Terminal::CloseParen)
         }
-        FormulaTree::And { token: _, parts } => {
+        FormulaTree::And { parts, .. } => {
             printer.fixed(Terminal::OpenParen)?;
             print_parts(parts.as_slice(), Terminal::And, printer)?;
             printer.fixed(Terminal::CloseParen)
         }
-        FormulaTree::Or { token: _, parts } => {
+        FormulaTree::Or { parts, .. } => {
             printer.fixed(Terminal::OpenParen)?;
             print_parts(parts.as_slice(), Terminal::Or, printer)?;
             printer.fixed(Terminal::CloseParen)

@@ -2,11 +2,13 @@
 use Rattle.std.specs.Prelude.{ℕ, Bool, ◌||◌, if◌then◌else◌, List, [], ◌∷◌, ◌++◌}
 use Rattle.std.specs.List.{list_any}
 use Rattle.std.specs.Str.{bytes_eq}
+use Rattle.ep_lex.specs.declared.token.Token.{Token}
+use Rattle.ep_lex.specs.Tokens.{AreTokens, spellings}
 use Rattle.ep_syntax.specs.declared.terminal.Terminal.{Terminal}
 use Rattle.ep_syntax.specs.declared.terminal.Terminal.TheVariants as the
 use Rattle.ep_syntax.specs.declared.tree.TaskTree.{TaskTree}
 use Rattle.ep_syntax.specs.Terminals.{text_of}
-use Rattle.ep_syntax.specs.Grammar.{tasks, spelling_of}
+use Rattle.ep_syntax.specs.Grammar.{tasks, spelling_of, Reads}
 
 -- the words that begin a line
 abbrev pub line_starts : List Terminal
@@ -36,3 +38,9 @@ laid_out (first ∷ more) = first ++ laid_behind first more
 -- the layout of a task
 abbrev pub layout_of : TaskTree → List ℕ
 layout_of tree = laid_out (spelling_of tasks tree)
+
+-- The tree `found` reads the tokens of the layout of a task.
+pub record ReadsLayout (tree found : TaskTree) : Type 0 where
+  pub tokens : List Token
+  pub are_tokens : AreTokens (layout_of tree) tokens
+  pub reads : Reads tasks (spellings (layout_of tree) tokens) found

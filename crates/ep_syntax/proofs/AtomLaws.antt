@@ -74,7 +74,7 @@ arguments_marks : (ns : List Name) → OneOrMore IsFormedName ns → spell.argum
 arguments_marks [] f = absurd f
 arguments_marks (x ∷ xs) f = refl
 
-made-id : {A : Type 0} (r : Read A) → made (λ a. a) r ≡ r
+pub made-id : {A : Type 0} (r : Read A) → made (λ a. a) r ≡ r
 made-id (Ok x) = refl
 made-id (Err e) = refl
 

@@ -4,6 +4,7 @@ pub mod LaidOutLemmas
 pub mod LayoutTokens
 pub mod SpelledFormulas
 pub mod SpelledTasks
+pub mod Readable
 pub mod Sources
 pub mod Loops
 pub mod MarkLists
@@ -18,4 +19,7 @@ pub mod ParenLaws
 pub mod DeepLaws
 pub mod FormulaLaws
 pub mod Whole
-pub mod Readable
+pub mod DeclarationLaws
+pub mod InitialLaws
+pub mod ActionLaws
+pub mod TaskLaws

@@ -6,7 +6,7 @@ use Rattle.ep_syntax.specs.declared.terminal.Terminal.{Terminal}
 use Rattle.ep_syntax.specs.Formed.{Each, OneOrMore}
 use Rattle.ep_syntax.specs.Grammar.{Grammar}
 use Rattle.ep_syntax.specs.Marks.{Mark, fixed, texts}
-use Rattle.ep_syntax.specs.Reading.{Token, Read, Reader, seq, made, is, begins, heads, key, each_by, each, front, second, behind_key, listed, any_listed}
+use Rattle.ep_syntax.specs.Reading.{Token, Read, Reader, seq, made, is, begins, heads, key, each_by, each, some_each, front, second, behind_key, listed, any_listed}
 use Rattle.ep_syntax.specs.Spelling.{behind, between}
 use Rattle.ep_syntax.specs.Terminals.{text_of}
 use Rattle.ep_syntax.proofs.MarkLists.{Agree, texts-append, length-texts}
@@ -31,6 +31,10 @@ MayFollow {A} G g = (a : A) (more : List Token) → g.IsFormed a → G (texts (g
 
 abbrev pub each_of : {A : Type 0} → Grammar A → Grammar (List A)
 each_of g = record { marks = flat_map g.marks; IsFormed = Each g.IsFormed; bare = map g.bare }
+
+-- item { item }
+abbrev pub some_each_of : {A : Type 0} → Grammar A → Grammar (List A)
+some_each_of g = record { marks = flat_map g.marks; IsFormed = OneOrMore g.IsFormed; bare = map g.bare }
 
 nonempty : (test : Token → Bool) (xs : List Mark) → heads test (texts xs ++ []) ≡ true → 1 ≤ length xs
 nonempty test [] e = absurd (false≢true e)
@@ -79,6 +83,17 @@ module _ {A : Type 0} (test : Token → Bool) (g : Grammar A) (G F : Follow) (it
   pub each_part : Part (each_of g) F (each test item)
   each_part = record { reads = λ n ts. each_reads (length ts) n ts (omega arith); value = []; formed = tt }
 
+  some_each_back : (b : List A) → OneOrMore g.IsFormed b → Made (both g (each_of g)) front b
+  some_each_back [] f = absurd f
+  some_each_back (x ∷ xs) f = record { from = (x, xs); formed = f; is = refl }
+
+  pub some_each_part : Part (some_each_of g) F (some_each test item)
+  some_each_part = record {
+    reads = λ n ts. made_all (record { marks = λ _ _. refl; formed = λ _ f. f; bare = λ _. refl }) some_each_back (pair (p.reads n ts) each_part follow);
+    value = p.value ∷ [];
+    formed = (p.formed, tt);
+  }
+
 -- ---- item { t item }
 
 abbrev pub behind_of : {A : Type 0} → Terminal → Grammar A → Grammar A
@@ -94,15 +109,18 @@ listed_of t g = record { marks = λ xs. between t (map g.marks xs); IsFormed = O
 abbrev pub any_listed_of : {A : Type 0} → Terminal → Grammar A → Grammar (List A)
 any_listed_of t g = record { marks = λ xs. between t (map g.marks xs); IsFormed = Each g.IsFormed; bare = map g.bare }
 
+pub keyed_part : {A : Type 0} {g : Grammar A} {F : Follow} {item : Reader A} (t : Terminal) → Part g F item → Part (behind_of t g) F (behind_key t item)
+keyed_part t p = record {
+  reads = λ n ts. made_all (record { marks = λ _ _. refl; formed = λ _ f. f.1; bare = λ _. refl }) (λ b f. record { from = (0, b); formed = (tt, f); is = refl })
+      (then (plain_reads t n ts) p);
+  value = p.value;
+  formed = p.formed;
+}
+
 module _ {A : Type 0} (t : Terminal) (g : Grammar A) (G F : Follow) (item : Reader A) (p : Part g G item)
     (goes : (more : List Token) → G (text_of t ∷ more)) (ends : (ts : List Token) → F ts → G ts) (stops : (ts : List Token) → F ts → Lacks (is t) ts) where
   pub behind_part : Part (behind_of t g) G (behind_key t item)
-  behind_part = record {
-    reads = λ n ts. made_all (record { marks = λ _ _. refl; formed = λ _ f. f.1; bare = λ _. refl }) (λ b f. record { from = (0, b); formed = (tt, f); is = refl })
-        (then (plain_reads t n ts) p);
-    value = p.value;
-    formed = p.formed;
-  }
+  behind_part = keyed_part t p
 
   pub rest_part : Part (each_of (behind_of t g)) F (each (is t) (behind_key t item))
   rest_part = each_part (is t) (behind_of t g) G F (behind_key t item) behind_part (λ _ _ _. is-text_of t) (λ _ more _. goes _) ends stops

@@ -8,5 +8,6 @@ pub mod Bare
 pub mod Grammar
 pub mod Reading
 pub mod FormulaReading
+pub mod TaskReading
 pub mod Gives
 pub mod Answers

@@ -93,6 +93,10 @@ listed t item n ts = made front (seq (item n ts) (each (is t) (behind_key t item
 abbrev pub inner_of : {A : Type 0} → (ℕ × A) × ℕ → A
 inner_of p = p.0.1
 
+-- item { item }
+abbrev pub some_each : {A : Type 0} → (Token → Bool) → Reader A → Reader (List A)
+some_each test item n ts = made front (seq (item n ts) (each test item))
+
 -- left item right
 abbrev pub within : {A : Type 0} → Terminal → Reader A → Terminal → Reader A
 within left item right n ts = made inner_of (seq (seq (key left n ts) item) (key right))
@@ -100,6 +104,10 @@ within left item right n ts = made inner_of (seq (seq (key left n ts) item) (key
 -- [ item { t item } ], where an item begins with a token that passes the test
 abbrev pub any_listed : {A : Type 0} → (Token → Bool) → Terminal → Reader A → Reader (List A)
 any_listed test t item n ts = if heads test ts then listed t item n ts else Ok ([], n, ts)
+
+-- '{' item '}'
+abbrev pub braced : {A : Type 0} → Reader A → Reader A
+braced item n ts = within the.OpenBrace item the.CloseBrace n ts
 
 -- nothing is left
 abbrev pub end : Reader (Unit {0})

@@ -1,9 +1,12 @@
 //! Trees of the task language, their reader and their layout.
 #![tactic(auto)]
 
+mod action;
 mod atom;
+mod declarations;
 mod error;
 mod formula;
+mod initial;
 pub mod layout;
 mod parse;
 mod print;

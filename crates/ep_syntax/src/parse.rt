@@ -2,7 +2,7 @@
 
 ghost use Rattle.std.specs.Prelude.{◌≡◌, ◌∷◌};
 ghost use Rattle.ep_syntax.specs.Gives.{Gives};
-ghost use Rattle.ep_syntax.specs.Reading.{each, listed, any_listed, behind_key};
+ghost use Rattle.ep_syntax.specs.Reading.{each, some_each, listed, any_listed, behind_key, braced};
 ghost use Rattle.ep_syntax.specs.declared.terminal.Terminal.TheVariants as the;
 
 use crate::error::SyntaxError;
@@ -76,4 +76,41 @@ pub fn zero_or_more<T: Parse>(reader: &mut Reader, alloc: Global) -> Result<List
     } else {
         Ok(List::new(alloc))
     }
+}
+
+/// `item { item }`
+pub fn some_of<T: Parse>(reader: &mut Reader, alloc: Global) -> Result<List<T>, SyntaxError>
+    ensures { Gives (some_each T.starts T.reads) reader.old result reader.new }
+{
+    let first = T::parse(reader, alloc)?;
+    let mut items = List::new(alloc);
+    items.push(first)?;
+    for _ in 0..reader.left() {
+        if !T::begins(reader) {
+            break;
+        }
+        let item = T::parse(reader, alloc)?;
+        items.push(item)?;
+    }
+    Ok(items)
+}
+
+/// `'{' { item } '}'`
+pub fn braced_each<T: Parse>(reader: &mut Reader, alloc: Global) -> Result<List<T>, SyntaxError>
+    ensures { Gives (braced (each T.starts T.reads)) reader.old result reader.new }
+{
+    reader.expect(Terminal::OpenBrace)?;
+    let items = each_of(reader, alloc)?;
+    reader.expect(Terminal::CloseBrace)?;
+    Ok(items)
+}
+
+/// `'{' [ item { ',' item } ] '}'`
+pub fn braced_list<T: Parse>(reader: &mut Reader, alloc: Global) -> Result<List<T>, SyntaxError>
+    ensures { Gives (braced (any_listed T.starts the.Comma T.reads)) reader.old result reader.new }
+{
+    reader.expect(Terminal::OpenBrace)?;
+    let items = zero_or_more(reader, alloc)?;
+    reader.expect(Terminal::CloseBrace)?;
+    Ok(items)
 }

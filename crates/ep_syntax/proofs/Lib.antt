@@ -1,3 +1,10 @@
+pub mod PrintedLemmas
+pub mod PrintedFormulas
+pub mod LaidOutLemmas
+pub mod LayoutTokens
+pub mod SpelledFormulas
+pub mod SpelledTasks
+pub mod Readable
 pub mod Sources
 pub mod Loops
 pub mod MarkLists

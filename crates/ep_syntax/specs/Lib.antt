@@ -1,3 +1,5 @@
+pub mod Layout
+pub mod Printing
 pub mod Terminals
 pub mod Marks
 pub mod Spelling

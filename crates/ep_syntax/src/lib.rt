@@ -7,13 +7,17 @@ mod declarations;
 mod error;
 mod formula;
 mod initial;
+pub mod layout;
 mod parse;
+mod print;
+mod printer;
 mod read;
 mod reader;
 pub mod terminal;
 pub mod tree;
 
 pub use error::SyntaxError;
+pub use print::print_task;
 pub use read::read_formula;
 pub use terminal::Terminal;
 pub use tree::{

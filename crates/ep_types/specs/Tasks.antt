@@ -1,0 +1,182 @@
+-- What stands at the tokens of a task, in file order, each with the names that are declared before it.
+use Rattle.std.specs.Prelude.{ℕ, ◌+◌, List, [], ◌∷◌, ◌++◌, Option, Some, None, map, unwrap_or, codes}
+use Rattle.ep_types.specs.Names.{Text, names_of}
+use Rattle.ep_types.specs.Places.{Scope, closed, objective, with_params, NewName, ParamType, UsedName, Uses, nothing, both, at, each}
+use Rattle.ep_types.specs.Uses.{texts, param_uses, atom_uses, atom_texts, fact_uses, group_uses, formula_uses}
+use Rattle.ep_types.specs.declared.scope.Declared.{Declared}
+use Rattle.ep_syntax.specs.declared.tree.Name.{Name}
+use Rattle.ep_syntax.specs.declared.tree.TypeTree.{TypeTree}
+use Rattle.ep_syntax.specs.declared.tree.ObjectTree.{ObjectTree}
+use Rattle.ep_syntax.specs.declared.tree.FluentTree.{FluentTree}
+use Rattle.ep_syntax.specs.declared.tree.AtomTree.{AtomTree}
+use Rattle.ep_syntax.specs.declared.tree.PairTree.{PairTree}
+use Rattle.ep_syntax.specs.declared.tree.PairsTree.{PairsTree}
+use Rattle.ep_syntax.specs.declared.tree.PairsTree.TheVariants as pairs
+use Rattle.ep_syntax.specs.declared.tree.LinkTree.{LinkTree}
+use Rattle.ep_syntax.specs.declared.tree.WorldTree.{WorldTree}
+use Rattle.ep_syntax.specs.declared.tree.SeesTree.{SeesTree}
+use Rattle.ep_syntax.specs.declared.tree.InitTree.{InitTree}
+use Rattle.ep_syntax.specs.declared.tree.InitTree.TheVariants.{Explicit, Lawful}
+use Rattle.ep_syntax.specs.declared.tree.SetTree.{SetTree}
+use Rattle.ep_syntax.specs.declared.tree.EventTree.{EventTree}
+use Rattle.ep_syntax.specs.declared.tree.BodyTree.{BodyTree}
+use Rattle.ep_syntax.specs.declared.tree.BodyTree.TheVariants.{Announce, Private, Sense, Assign, Events}
+use Rattle.ep_syntax.specs.declared.tree.SchemaTree.{SchemaTree}
+use Rattle.ep_syntax.specs.declared.tree.TaskTree.{TaskTree}
+
+-- ---- types, objects and fluents
+
+-- `agent` is below `object`, which is above all
+abbrev pub start : Declared
+start = record { types = (codes "object", codes "object") ∷ (codes "agent", codes "object") ∷ []; objects = []; fluents = [] }
+
+abbrev pub with_type : Declared → TypeTree → Declared
+with_type d e = record d { types = d.types ++ (e.name.text, e.parent.text) ∷ [] }
+
+abbrev pub after_types : Declared → List TypeTree → Declared
+after_types d [] = d
+after_types d (e ∷ es) = after_types (with_type d e) es
+
+abbrev pub type_uses : Declared → List TypeTree → Uses
+type_uses d [] = nothing
+type_uses d (e ∷ es) =
+    both (at e.name.token (NewName e.name.text (names_of d.types)))
+    (both (at e.parent.token (UsedName e.parent.text (names_of d.types))) (type_uses (with_type d e) es))
+
+abbrev pub with_object : Declared → Text → Name → Declared
+with_object d kind x = record d { objects = d.objects ++ (x.text, kind) ∷ [] }
+
+abbrev pub with_objects : Declared → Text → List Name → Declared
+with_objects d kind [] = d
+with_objects d kind (x ∷ xs) = with_objects (with_object d kind x) kind xs
+
+abbrev pub after_objects : Declared → List ObjectTree → Declared
+after_objects d [] = d
+after_objects d (e ∷ es) = after_objects (with_objects d e.kind.text e.names) es
+
+abbrev pub name_uses : Declared → Text → List Name → Uses
+name_uses d kind [] = nothing
+name_uses d kind (x ∷ xs) = both (at x.token (NewName x.text (names_of d.objects))) (name_uses (with_object d kind x) kind xs)
+
+abbrev pub object_uses : Declared → List ObjectTree → Uses
+object_uses d [] = nothing
+object_uses d (e ∷ es) =
+    let all = with_objects d e.kind.text e.names in
+    both (name_uses d e.kind.text e.names) (both (at e.kind.token (UsedName e.kind.text (names_of all.types))) (object_uses all es))
+
+abbrev pub with_fluent : Declared → FluentTree → Declared
+with_fluent d e = record d { fluents = d.fluents ++ (e.name.text, texts e.kinds) ∷ [] }
+
+abbrev pub after_fluents : Declared → List FluentTree → Declared
+after_fluents d [] = d
+after_fluents d (e ∷ es) = after_fluents (with_fluent d e) es
+
+abbrev pub kind_uses : Declared → ℕ → List Name → Uses
+kind_uses d n [] = nothing
+kind_uses d n (x ∷ xs) = both (at x.token (ParamType n x.text (names_of d.types))) (kind_uses d (n + 1) xs)
+
+abbrev pub fluent_uses : Declared → List FluentTree → Uses
+fluent_uses d [] = nothing
+fluent_uses d (e ∷ es) =
+    both (at e.name.token (NewName e.name.text (names_of d.fluents))) (both (kind_uses d 0 e.kinds) (fluent_uses (with_fluent d e) es))
+
+-- ---- worlds and links
+
+abbrev pub atoms_uses : List AtomTree → Scope → Uses
+atoms_uses xs s = each (λ a. atom_uses a s) xs
+
+-- names of worlds or events
+abbrev pub known_uses : List Text → List Name → Uses
+known_uses names xs = each (λ x. at x.token (UsedName x.text names)) xs
+
+abbrev pub pair_uses : List Text → PairTree → Uses
+pair_uses names p = both (at p.from.token (UsedName p.from.text names)) (at p.to.token (UsedName p.to.text names))
+
+abbrev pub pairs_uses : List Text → PairsTree → Uses
+pairs_uses names pairs.All = nothing
+pairs_uses names pairs.Same = nothing
+pairs_uses names (pairs.Listed ps) = each (pair_uses names) ps
+
+abbrev pub links_uses : List Text → List LinkTree → Scope → Uses
+links_uses names ls s = each (λ l. both (group_uses l.group s) (pairs_uses names l.pairs)) ls
+
+-- the names of designated worlds or events, and the links between worlds or events
+abbrev pub ends_uses : List Text → List Name → List LinkTree → Scope → Uses
+ends_uses names designated links s = both (known_uses names designated) (links_uses names links s)
+
+-- ---- the initial state
+
+-- worlds, behind those of these names
+abbrev pub world_uses : List Text → List WorldTree → Scope → Uses
+world_uses taken [] s = nothing
+world_uses taken (w ∷ ws) s =
+    both (at w.name.token (NewName w.name.text taken)) (both (atoms_uses w.atoms s) (world_uses (taken ++ w.name.text ∷ []) ws s))
+
+abbrev pub world_names : List WorldTree → List Text
+world_names ws = map (λ w. w.name.text) ws
+
+abbrev pub sees_uses : List SeesTree → Scope → Uses
+sees_uses xs s = each (λ x. both (group_uses x.group s) (atoms_uses x.atoms s)) xs
+
+abbrev pub facts_uses : List AtomTree → List AtomTree → Scope → Uses
+facts_uses vary xs s = each (λ a. fact_uses (map atom_texts vary) a s) xs
+
+abbrev pub init_uses : Declared → InitTree → Uses
+init_uses d (Explicit ws designated links) = both (world_uses [] ws (closed d)) (ends_uses (world_names ws) designated links (closed d))
+init_uses d (Lawful vary facts law sees designated) =
+    both (atoms_uses vary (closed d))
+    (both (facts_uses vary (unwrap_or facts []) (closed d))
+    (both (formula_uses law (objective d)) (both (sees_uses sees (closed d)) (formula_uses designated (objective d)))))
+
+-- ---- schemas
+
+abbrev pub sets_uses : List SetTree → Scope → Uses
+sets_uses xs s = each (λ x. both (atom_uses x.atom s) (formula_uses x.value s)) xs
+
+-- events, behind those of these names
+abbrev pub event_uses : List Text → List EventTree → Scope → Uses
+event_uses taken [] s = nothing
+event_uses taken (e ∷ es) s =
+    both (at e.name.token (NewName e.name.text taken))
+    (both (formula_uses e.pre s) (both (sets_uses e.sets s) (event_uses (taken ++ e.name.text ∷ []) es s)))
+
+abbrev pub event_names : List EventTree → List Text
+event_names es = map (λ e. e.name.text) es
+
+abbrev pub body_uses : BodyTree → Scope → Uses
+body_uses (Announce what) s = formula_uses what s
+body_uses (Private what group) s = both (formula_uses what s) (group_uses group s)
+body_uses (Sense what group) s = both (formula_uses what s) (group_uses group s)
+body_uses (Assign guard sets) s = both (formula_uses guard s) (sets_uses sets s)
+body_uses (Events es designated links) s = both (event_uses [] es s) (ends_uses (event_names es) designated links s)
+
+-- the parameters and the body of a schema
+abbrev pub inner_uses : SchemaTree → Declared → Uses
+inner_uses e d = both (param_uses 0 e.params (closed d)) (body_uses e.body (with_params (closed d) e.params))
+
+-- schemas, behind those of these names
+abbrev pub schema_uses : List Text → List SchemaTree → Declared → Uses
+schema_uses taken [] d = nothing
+schema_uses taken (e ∷ es) d =
+    both (at e.name.token (NewName e.name.text taken)) (both (inner_uses e d) (schema_uses (taken ++ e.name.text ∷ []) es d))
+
+-- ---- the task
+
+abbrev pub declarations_from : Declared → TaskTree → Declared
+declarations_from d t = after_fluents (after_objects (after_types d (unwrap_or t.types [])) t.objects) t.fluents
+
+-- the types, objects and fluents of a task
+abbrev pub declarations : TaskTree → Declared
+declarations t = declarations_from start t
+
+abbrev pub declaration_uses : Declared → TaskTree → Uses
+declaration_uses d t =
+    let types = after_types d (unwrap_or t.types []) in
+    both (type_uses d (unwrap_or t.types [])) (both (object_uses types t.objects) (fluent_uses (after_objects types t.objects) t.fluents))
+
+-- the initial state, the schemas and the goal
+abbrev pub rest_uses : Declared → TaskTree → Uses
+rest_uses d t = both (init_uses d t.init) (both (schema_uses [] t.schemas d) (formula_uses t.goal (closed d)))
+
+abbrev pub task_uses : TaskTree → Uses
+task_uses t = both (declaration_uses start t) (rest_uses (declarations t) t)

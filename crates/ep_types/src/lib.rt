@@ -1,0 +1,9 @@
+//! Names and types: the first fault of a tree in file order.
+#![tactic(auto)]
+
+pub mod fault;
+pub mod judge;
+pub mod scope;
+pub mod table;
+
+pub use fault::{TypeError, TypeFault};

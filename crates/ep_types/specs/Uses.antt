@@ -48,20 +48,35 @@ abbrev pub group_uses : GroupTree → Scope → Uses
 group_uses (All t) s = nothing
 group_uses (Members t xs) s = both (at t (Group (length xs))) (agent_uses xs s)
 
+-- `knows` and the name behind it
+abbrev pub knower_uses : ℕ → Name → Scope → Uses
+knower_uses t x s = both (at t (Knowledge s.knowledge)) (at x.token (Agent x.text s))
+
+-- `common` and the group behind it
+abbrev pub knowers_uses : ℕ → GroupTree → Scope → Uses
+knowers_uses t g s = both (at t (Knowledge s.knowledge)) (group_uses g s)
+
+abbrev pub equality_uses : Name → Name → Scope → Uses
+equality_uses left right s = both (at left.token (UsedObject left.text s)) (at right.token (UsedObject right.text s))
+
 -- one case for each production
 abbrev pub production : FormulaTree-F (Scope → Uses) → Scope → Uses
 production (FormulaTree-F.True t) s = nothing
 production (FormulaTree-F.False t) s = nothing
 production (FormulaTree-F.Atom a) s = atom_uses a s
 production (FormulaTree-F.Not t inner) s = inner s
-production (FormulaTree-F.Knows t a inner) s = both (at t (Knowledge s.knowledge)) (both (at a.token (Agent a.text s)) (inner s))
-production (FormulaTree-F.Common t g inner) s = both (at t (Knowledge s.knowledge)) (both (group_uses g s) (inner s))
+production (FormulaTree-F.Knows t a inner) s = both (knower_uses t a s) (inner s)
+production (FormulaTree-F.Common t g inner) s = both (knowers_uses t g s) (inner s)
 production (FormulaTree-F.Forall t ps inner) s = both (param_uses 0 ps s) (inner (with_params s ps))
 production (FormulaTree-F.Exists t ps inner) s = both (param_uses 0 ps s) (inner (with_params s ps))
-production (FormulaTree-F.Equal t left right) s = both (at left.token (UsedObject left.text s)) (at right.token (UsedObject right.text s))
+production (FormulaTree-F.Equal t left right) s = equality_uses left right s
 production (FormulaTree-F.Paren t inner) s = inner s
 production (FormulaTree-F.And t parts) s = each (λ part. part s) parts
 production (FormulaTree-F.Or t parts) s = each (λ part. part s) parts
 
 abbrev pub formula_uses : FormulaTree → Scope → Uses
 formula_uses = fold-FormulaTree (Scope → Uses) production
+
+-- formulas, one after another
+abbrev pub formulas_uses : List FormulaTree → Scope → Uses
+formulas_uses fs s = each (λ f. formula_uses f s) fs

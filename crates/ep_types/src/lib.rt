@@ -2,6 +2,7 @@
 #![tactic(auto)]
 
 pub mod fault;
+pub mod formula;
 pub mod judge;
 pub mod scope;
 pub mod table;

@@ -1,9 +1,10 @@
 //! Names with a value each, in order of declaration.
 
-ghost use Rattle.std.specs.Prelude.{◌≡◌, ◌++◌, ◌∷◌, [], ◌<◌, None, length, take, OnOk, position};
+ghost use Rattle.std.specs.Prelude.{◌≡◌, ◌++◌, ◌∷◌, [], ◌<◌, None, length, take, IfOk, OnOk, position};
 ghost use Rattle.std.specs.Option.{option_copied};
 ghost use Rattle.ep_types.specs.Names.{declared, is_among, is_text, names_of};
 
+use ep_logic::{List, Text};
 use indexmap::IndexMap;
 use std::alloc::{AllocError, Global};
 use std::marker::Model;
@@ -78,4 +79,11 @@ impl<V: Drop> Table<V> {
     {
         self.map.truncate(len);
     }
+}
+
+/// A copy of a text.
+pub fn copy_text(alloc: Global, text: &Text) -> Result<List<u8>, AllocError>
+    ensures { IfOk result (λ copy. copy ≡ text.now) }
+{
+    Ok(List::from_vec(Vec::from_slice(alloc, text.as_slice())?))
 }

@@ -18,5 +18,5 @@ returns-in_err-argument c =
     let left = arguments_left c.args.args.now c.args.kinds.now i x kind s here there c.index-args-i.is c.index-kinds-i.is in
     let fault : c.argument.result ≡ Err c.in_err-argument.field-0.0 = c.in_err-argument.was in
     let first = told_front (at x.token (Argument x.text kind s)) (argument_uses (drop (i + 1) c.args.args.now) (drop (i + 1) c.args.kinds.now) s) c.in_err-argument.field-0.0
-        (ap (λ k. told (first_fault (at x.token (Argument x.text k s)))) (sym c.as_slice.ensures) ∙ sym c.argument.ensures ∙ fault) in
+    (ap (λ k. told (first_fault (at x.token (Argument x.text k s)))) (sym c.as_slice.ensures) ∙ sym c.argument.ensures ∙ fault) in
     rw (p.1, p.2) (sym (ap told (c.loop-i.invariant ∙ ap first_fault left) ∙ first))

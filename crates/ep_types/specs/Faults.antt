@@ -1,9 +1,8 @@
 -- The table of faults, row by row, and the first fault.
 use Rattle.std.specs.Prelude.{◌≡◌, ℕ, Bool, true, false, not, nat_eq, ◌||◌, List, [], ◌∷◌, length, Option, Some, None, Result, Ok, Err, MatchResult, if◌then◌else◌, codes}
 use Rattle.std.specs.Option.{is_some, is_none}
-use Rattle.std.specs.List.{list_any}
-use Rattle.std.specs.Cmp.Lexicographic.{pointwise}
-use Rattle.ep_types.specs.Names.{Text, Typings, declared, is_text, is_among, is_below}
+use Rattle.ep_types.specs.Atoms.{has_atom}
+use Rattle.ep_types.specs.Names.{Text, Typings, declared, is_among, is_below}
 use Rattle.ep_types.specs.Places.{Scope, type_of, Place, NewName, NewParam, ParamType, UsedName, UsedObject, UsedFluent, Fact, Argument, Agent, Group, Knowledge, Use, Uses, nothing, one, both}
 use Rattle.ep_types.specs.declared.fault.TypeFault.{TypeFault}
 use Rattle.ep_types.specs.declared.fault.TypeFault.TheVariants.{TooManyParameters, Duplicate, Unknown, WrongArity, WrongType, NotAgent, EmptyGroup, NotObjective}
@@ -20,10 +19,6 @@ abbrev pub has_other_count : ℕ → Option (List Text) → Bool
 has_other_count n None = false
 has_other_count n (Some kinds) = not (nat_eq n (length kinds))
 
--- whether an atom is in a list
-abbrev pub is_varied : List Text → List (List Text) → Bool
-is_varied a varied = list_any (pointwise is_text a) varied
-
 -- the seventh parameter or parameter type of a list
 abbrev pub is_seventh : Place → Bool
 is_seventh (NewParam n x s) = nat_eq n 6
@@ -34,7 +29,7 @@ is_seventh _ = false
 abbrev pub is_duplicate : Place → Bool
 is_duplicate (NewName x taken) = is_among x taken
 is_duplicate (NewParam n x s) = is_some (type_of s x)
-is_duplicate (Fact x args varied s) = is_varied (x ∷ args) varied
+is_duplicate (Fact x args varied s) = has_atom (x ∷ args) varied
 is_duplicate _ = false
 
 -- a used name that is not declared

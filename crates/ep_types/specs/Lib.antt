@@ -1,3 +1,4 @@
+pub mod Atoms
 pub mod Faults
 pub mod Names
 pub mod Places

@@ -1,8 +1,9 @@
 -- What stands at the tokens of a task, in file order, each with the names that are declared before it.
 use Rattle.std.specs.Prelude.{ℕ, ◌+◌, List, [], ◌∷◌, ◌++◌, Option, Some, None, map, unwrap_or, codes}
 use Rattle.ep_types.specs.Names.{Text, names_of}
+use Rattle.ep_types.specs.Atoms.{texts, atom_texts}
 use Rattle.ep_types.specs.Places.{Scope, closed, objective, with_params, NewName, ParamType, UsedName, Uses, nothing, both, at, each}
-use Rattle.ep_types.specs.Uses.{texts, param_uses, atom_uses, atom_texts, fact_uses, group_uses, formula_uses}
+use Rattle.ep_types.specs.Uses.{param_uses, atom_uses, fact_uses, group_uses, formula_uses}
 use Rattle.ep_types.specs.declared.scope.Declared.{Declared}
 use Rattle.ep_syntax.specs.declared.tree.Name.{Name}
 use Rattle.ep_syntax.specs.declared.tree.TypeTree.{TypeTree}

@@ -1,6 +1,7 @@
 -- What stands at the tokens of atoms, groups, parameters and formulas.
 use Rattle.std.specs.Prelude.{ℕ, ◌+◌, List, [], ◌∷◌, length, map, unwrap_or}
 use Rattle.ep_types.specs.Names.{Text, declared, names_of}
+use Rattle.ep_types.specs.Atoms.{texts}
 use Rattle.ep_types.specs.Places.{Scope, with_param, with_params, Place, UsedName, NewParam, UsedObject, UsedFluent, Fact, Argument, Agent, Group, Knowledge, Uses, nothing, both, at, each}
 use Rattle.ep_syntax.specs.declared.tree.Name.{Name}
 use Rattle.ep_syntax.specs.declared.tree.AtomTree.{AtomTree}
@@ -10,9 +11,6 @@ use Rattle.ep_syntax.specs.declared.tree.ParamTree.{ParamTree}
 use Rattle.ep_syntax.specs.declared.tree.FormulaTree.{FormulaTree}
 use Rattle.ep_syntax.specs.declared.tree.FormulaTree.TheOpen.{FormulaTree-F}
 use Rattle.ep_syntax.specs.declared.tree.FormulaTree.TheFolds.{fold-FormulaTree}
-
-abbrev pub texts : List Name → List Text
-texts xs = map (λ x. x.text) xs
 
 -- a list of parameters, from this number on
 abbrev pub param_uses : ℕ → List ParamTree → Scope → Uses
@@ -33,10 +31,6 @@ kinds_of x s = unwrap_or (declared x s.names.fluents) []
 
 abbrev pub atom_uses : AtomTree → Scope → Uses
 atom_uses a s = both (at a.name.token (UsedFluent a.name.text (length a.args) s)) (argument_uses a.args (kinds_of a.name.text s) s)
-
--- an atom's fluent and arguments: two atoms are one where these are
-abbrev pub atom_texts : AtomTree → List Text
-atom_texts a = a.name.text ∷ texts a.args
 
 abbrev pub fact_uses : List (List Text) → AtomTree → Scope → Uses
 fact_uses varied a s = both (at a.name.token (Fact a.name.text (texts a.args) varied s)) (argument_uses a.args (kinds_of a.name.text s) s)

@@ -1,16 +1,18 @@
 //! The fault at one token, and at the names of a list. Nothing here takes memory.
 
 ghost use Rattle.std.specs.Prelude.{◌≡◌, length, codes};
-ghost use Rattle.ep_types.specs.Faults.{first_fault, told};
+ghost use Rattle.ep_types.specs.Faults.{first_fault, told, IsJudged};
 ghost use Rattle.ep_types.specs.Names.{is_below, names_of};
 ghost use Rattle.ep_types.specs.Places.{at, scope, NewName, NewParam, ParamType, UsedName, UsedObject, Argument, Agent, Knowledge};
-ghost use Rattle.ep_types.specs.Uses.{agent_uses, group_uses, argument_uses, atom_uses};
+ghost use Rattle.ep_types.specs.Uses.{agent_uses, group_uses, argument_uses, atom_uses, fact_uses};
 
+use crate::atoms::AtomSet;
 use crate::fault::{TypeError, TypeFault};
 use crate::scope::{Declared, Frame, is_below, type_of};
 use crate::table::Table;
 use ep_logic::List;
 use ep_syntax::{AtomTree, GroupTree, Name};
+use std::alloc::Global;
 
 /// A fault at a name.
 pub fn at_name(fault: TypeFault, name: &Name) -> Result<(), TypeError>
@@ -201,4 +203,20 @@ pub fn atom(names: &Declared, frame: &Frame, tree: &AtomTree) -> Result<(), Type
             arguments(names, frame, args, kinds)
         }
     }
+}
+
+/// An atom of the facts, which is not to be varied.
+pub fn fact(
+    alloc: Global,
+    names: &Declared,
+    frame: &Frame,
+    varied: &AtomSet,
+    tree: &AtomTree,
+) -> Result<(), TypeError>
+    ensures { IsJudged (fact_uses varied.now tree.now (scope names.now frame.now)) result }
+{
+    if varied.has(alloc, tree)? {
+        return at_name(TypeFault::Duplicate, &tree.name);
+    }
+    atom(names, frame, tree)
 }

@@ -1,9 +1,11 @@
 //! Names and types: the first fault of a tree in file order.
 #![tactic(auto)]
 
+pub mod atoms;
 pub mod fault;
 pub mod formula;
 pub mod judge;
+pub mod links;
 pub mod scope;
 pub mod table;
 

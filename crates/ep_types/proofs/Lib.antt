@@ -3,3 +3,4 @@ pub mod Climbs
 pub mod Arguments
 pub mod Formulas
 pub mod AtomLemmas
+pub mod Judged

@@ -1,5 +1,5 @@
 -- Entries of a map, and their texts.
-use Rattle.std.proofs.Common.{◌≡◌, ℕ, zero, suc, Bool, true, false, cond, not, ◌+◌, ◌||◌, List, [], ◌∷◌, ◌++◌, Option, Some, None, take, length, map, position, refl, ap, ◌∙◌, is_some, nat_lt}
+use Rattle.std.proofs.Common.{◌≡◌, ℕ, zero, suc, Bool, true, false, cond, not, ◌+◌, ◌||◌, List, [], ◌∷◌, ◌++◌, Option, Some, None, take, length, map, position, refl, ap, sym, ◌∙◌, is_some, nat_lt}
 use Rattle.std.specs.Global.{Vec}
 use Rattle.std.specs.Prelude.{nat_eq}
 use Rattle.std.specs.Cmp.Lexicographic.{pointwise}
@@ -28,6 +28,16 @@ among_step false c v o h = h
 pub declared-among : {V : Type 0} (q : Text) (es : List (Text × V)) → is_some (declared q es) ≡ is_among q (names_of es)
 declared-among q [] = refl
 declared-among q (e ∷ es) = among_step (is_text q e.0) (is_among q (names_of es)) e.1 (declared q es) (declared-among q es)
+
+none_here : {V : Type 0} (o : Option V) → is_some o ≡ false → o ≡ None
+none_here None h = refl
+none_here (Some v) h = cc
+
+pub declared-absent : {V : Type 0} (q : Text) (es : List (Text × V)) → is_among q (names_of es) ≡ false → declared q es ≡ None
+declared-absent q es h = none_here (declared q es) (declared-among q es ∙ h)
+
+pub absent_among : {V : Type 0} (q : Text) (es : List (Text × V)) → declared q es ≡ None → is_among q (names_of es) ≡ false
+absent_among q es h = sym (declared-among q es) ∙ ap is_some h
 
 place_or_len-seen : {V : Type 0} (q : Text) (es : List (Vec ℕ × V)) → position_or_len (λ k. pointwise nat_eq q k.items) (keys_of es) ≡ position_or_len (is_text q) (names_of (seen es))
 place_or_len-seen q [] = refl

@@ -1,5 +1,5 @@
 -- Sets of atoms, each as its fluent and its arguments.
-use Rattle.std.specs.Prelude.{ℕ, Bool, List, [], ◌∷◌, ◌++◌, map, if◌then◌else◌}
+use Rattle.std.specs.Prelude.{◌≡◌, ℕ, Bool, List, [], ◌∷◌, ◌++◌, map, if◌then◌else◌}
 use Rattle.std.specs.Global.{Vec}
 use Rattle.std.specs.Cmp.Lexicographic.{pointwise}
 use Rattle.std.specs.List.{list_any}
@@ -29,3 +29,7 @@ with_atom atoms a = if has_atom a atoms then atoms else atoms ++ a ∷ []
 -- the texts of a key
 abbrev pub key_texts : Vec (Vec ℕ) → List Text
 key_texts key = map (λ t. t.items) key.items
+
+-- a set has the atoms of a list
+abbrev pub IsSetOf : List AtomTree → List (List Text) → Type 0
+IsSetOf atoms set = (a : List Text) → has_atom a set ≡ has_atom a (map atom_texts atoms)

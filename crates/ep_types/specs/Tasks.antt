@@ -16,6 +16,7 @@ use Rattle.ep_syntax.specs.declared.tree.PairsTree.TheVariants as pairs
 use Rattle.ep_syntax.specs.declared.tree.LinkTree.{LinkTree}
 use Rattle.ep_syntax.specs.declared.tree.WorldTree.{WorldTree}
 use Rattle.ep_syntax.specs.declared.tree.SeesTree.{SeesTree}
+use Rattle.ep_syntax.specs.declared.tree.FormulaTree.{FormulaTree}
 use Rattle.ep_syntax.specs.declared.tree.InitTree.{InitTree}
 use Rattle.ep_syntax.specs.declared.tree.InitTree.TheVariants.{Explicit, Lawful}
 use Rattle.ep_syntax.specs.declared.tree.SetTree.{SetTree}
@@ -105,7 +106,7 @@ links_uses names ls s = each (λ l. both (group_uses l.group s) (pairs_uses name
 abbrev pub ends_uses : List Text → List Name → List LinkTree → Scope → Uses
 ends_uses names designated links s = both (known_uses names designated) (links_uses names links s)
 
--- ---- the initial state
+-- ---- the initial state, in whose formulas no knowledge is allowed
 
 -- worlds, behind those of these names
 abbrev pub world_uses : List Text → List WorldTree → Scope → Uses
@@ -122,12 +123,20 @@ sees_uses xs s = each (λ x. both (group_uses x.group s) (atoms_uses x.atoms s))
 abbrev pub facts_uses : List AtomTree → List AtomTree → Scope → Uses
 facts_uses vary xs s = each (λ a. fact_uses (map atom_texts vary) a s) xs
 
-abbrev pub init_uses : Declared → InitTree → Uses
-init_uses d (Explicit ws designated links) = both (world_uses [] ws (closed d)) (ends_uses (world_names ws) designated links (closed d))
-init_uses d (Lawful vary facts law sees designated) =
-    both (atoms_uses vary (closed d))
-    (both (facts_uses vary (unwrap_or facts []) (closed d))
-    (both (formula_uses law (objective d)) (both (sees_uses sees (closed d)) (formula_uses designated (objective d)))))
+abbrev pub explicit_uses : List WorldTree → List Name → List LinkTree → Scope → Uses
+explicit_uses ws designated links s = both (world_uses [] ws s) (ends_uses (world_names ws) designated links s)
+
+-- the varied atoms and the facts
+abbrev pub given_uses : List AtomTree → Option (List AtomTree) → Scope → Uses
+given_uses vary facts s = both (atoms_uses vary s) (facts_uses vary (unwrap_or facts []) s)
+
+-- the law, who sees what, and the formula of the designated worlds
+abbrev pub law_uses : FormulaTree → List SeesTree → FormulaTree → Scope → Uses
+law_uses law sees designated s = both (formula_uses law s) (both (sees_uses sees s) (formula_uses designated s))
+
+abbrev pub init_uses : InitTree → Scope → Uses
+init_uses (Explicit ws designated links) s = explicit_uses ws designated links s
+init_uses (Lawful vary facts law sees designated) s = both (given_uses vary facts s) (law_uses law sees designated s)
 
 -- ---- schemas
 
@@ -177,7 +186,7 @@ declaration_uses d t =
 
 -- the initial state, the schemas and the goal
 abbrev pub rest_uses : Declared → TaskTree → Uses
-rest_uses d t = both (init_uses d t.init) (both (schema_uses [] t.schemas d) (formula_uses t.goal (closed d)))
+rest_uses d t = both (init_uses t.init (objective d)) (both (schema_uses [] t.schemas d) (formula_uses t.goal (closed d)))
 
 abbrev pub task_uses : TaskTree → Uses
 task_uses t = both (declaration_uses start t) (rest_uses (declarations t) t)

@@ -13,6 +13,7 @@ use ep_syntax::{FormulaTree, GroupTree, Name, ParamTree};
 use std::alloc::Global;
 
 /// Checks a list of parameters, and brings them into force.
+#[tactic(auto, using(crate::proofs::NamesLemmas::absent_among))]
 pub fn bring(
     alloc: Global,
     names: &Declared,

@@ -4,6 +4,7 @@
 pub mod atoms;
 pub mod fault;
 pub mod formula;
+pub mod init;
 pub mod judge;
 pub mod links;
 pub mod scope;

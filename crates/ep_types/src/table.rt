@@ -1,6 +1,6 @@
 //! Names with a value each, in order of declaration.
 
-ghost use Rattle.std.specs.Prelude.{◌≡◌, ◌++◌, ◌∷◌, [], ◌<◌, None, length, take, IfOk, OnOk, position};
+ghost use Rattle.std.specs.Prelude.{◌≡◌, ◌++◌, ◌∷◌, [], ◌<◌, false, length, take, IfOk, OnOk, position};
 ghost use Rattle.std.specs.Option.{option_copied};
 ghost use Rattle.ep_types.specs.Names.{declared, is_among, is_text, names_of};
 
@@ -65,7 +65,7 @@ impl<V: Drop> Table<V> {
 
     /// Adds a name that is not there, at the end.
     pub fn add(&mut self, alloc: Global, name: &[u8], value: V) -> Result<(), AllocError>
-        requires { declared name.now self.old ≡ None }
+        requires { is_among name.now (names_of self.old) ≡ false }
         ensures { OnOk result (self.new ≡ self.old ++ (name.now, value) ∷ []) }
     {
         let key = Vec::from_slice(alloc, name)?;

@@ -17,6 +17,7 @@ use Rattle.ep_syntax.specs.declared.tree.LinkTree.{LinkTree}
 use Rattle.ep_syntax.specs.declared.tree.WorldTree.{WorldTree}
 use Rattle.ep_syntax.specs.declared.tree.SeesTree.{SeesTree}
 use Rattle.ep_syntax.specs.declared.tree.FormulaTree.{FormulaTree}
+use Rattle.ep_syntax.specs.declared.tree.GroupTree.{GroupTree}
 use Rattle.ep_syntax.specs.declared.tree.InitTree.{InitTree}
 use Rattle.ep_syntax.specs.declared.tree.InitTree.TheVariants.{Explicit, Lawful}
 use Rattle.ep_syntax.specs.declared.tree.SetTree.{SetTree}
@@ -143,32 +144,42 @@ init_uses (Lawful vary facts law sees designated) s = both (given_uses vary fact
 abbrev pub sets_uses : List SetTree → Scope → Uses
 sets_uses xs s = each (λ x. both (atom_uses x.atom s) (formula_uses x.value s)) xs
 
+-- a condition and the assignments under it
+abbrev pub effect_uses : FormulaTree → List SetTree → Scope → Uses
+effect_uses condition sets s = both (formula_uses condition s) (sets_uses sets s)
+
 -- events, behind those of these names
 abbrev pub event_uses : List Text → List EventTree → Scope → Uses
 event_uses taken [] s = nothing
 event_uses taken (e ∷ es) s =
-    both (at e.name.token (NewName e.name.text taken))
-    (both (formula_uses e.pre s) (both (sets_uses e.sets s) (event_uses (taken ++ e.name.text ∷ []) es s)))
+    both (at e.name.token (NewName e.name.text taken)) (both (effect_uses e.pre e.sets s) (event_uses (taken ++ e.name.text ∷ []) es s))
 
 abbrev pub event_names : List EventTree → List Text
 event_names es = map (λ e. e.name.text) es
 
+-- what is told or found out, and the group
+abbrev pub told_uses : FormulaTree → GroupTree → Scope → Uses
+told_uses what group s = both (formula_uses what s) (group_uses group s)
+
+abbrev pub general_uses : List EventTree → List Name → List LinkTree → Scope → Uses
+general_uses es designated links s = both (event_uses [] es s) (ends_uses (event_names es) designated links s)
+
 abbrev pub body_uses : BodyTree → Scope → Uses
 body_uses (Announce what) s = formula_uses what s
-body_uses (Private what group) s = both (formula_uses what s) (group_uses group s)
-body_uses (Sense what group) s = both (formula_uses what s) (group_uses group s)
-body_uses (Assign guard sets) s = both (formula_uses guard s) (sets_uses sets s)
-body_uses (Events es designated links) s = both (event_uses [] es s) (ends_uses (event_names es) designated links s)
+body_uses (Private what group) s = told_uses what group s
+body_uses (Sense what group) s = told_uses what group s
+body_uses (Assign guard sets) s = effect_uses guard sets s
+body_uses (Events es designated links) s = general_uses es designated links s
 
 -- the parameters and the body of a schema
-abbrev pub inner_uses : SchemaTree → Declared → Uses
-inner_uses e d = both (param_uses 0 e.params (closed d)) (body_uses e.body (with_params (closed d) e.params))
+abbrev pub inner_uses : SchemaTree → Scope → Uses
+inner_uses e s = both (param_uses 0 e.params s) (body_uses e.body (with_params s e.params))
 
 -- schemas, behind those of these names
 abbrev pub schema_uses : List Text → List SchemaTree → Declared → Uses
 schema_uses taken [] d = nothing
 schema_uses taken (e ∷ es) d =
-    both (at e.name.token (NewName e.name.text taken)) (both (inner_uses e d) (schema_uses (taken ++ e.name.text ∷ []) es d))
+    both (at e.name.token (NewName e.name.text taken)) (both (inner_uses e (closed d)) (schema_uses (taken ++ e.name.text ∷ []) es d))
 
 -- ---- the task
 

@@ -7,6 +7,7 @@ pub mod formula;
 pub mod init;
 pub mod judge;
 pub mod links;
+pub mod schema;
 pub mod scope;
 pub mod table;
 

@@ -15,4 +15,4 @@ returns c =
     behind_judged (world_uses before list s) (ends_uses (before ++ world_names list) c.args.chosen.now c.args.links.now s) c.designated.result
     (ap (λ l. first_fault (world_uses before l s)) (sym c.as_slice.ensures) ∙ c.in_ok-worlds.ensures.judged)
     (told_judged (ends_uses (before ++ world_names list) c.args.chosen.now c.args.links.now s) c.designated.result
-     (c.designated.ensures ∙ (λ i. told (first_fault (ends_uses (all i) (c.as_slice-2.ensures i) (c.as_slice-3.ensures i) s)))))
+    (c.designated.ensures ∙ (λ i. told (first_fault (ends_uses (all i) (c.as_slice-2.ensures i) (c.as_slice-3.ensures i) s)))))

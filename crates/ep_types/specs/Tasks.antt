@@ -1,6 +1,7 @@
 -- What stands at the tokens of a task, in file order, each with the names that are declared before it.
-use Rattle.std.specs.Prelude.{ℕ, ◌+◌, List, [], ◌∷◌, ◌++◌, Option, Some, None, map, unwrap_or, codes}
-use Rattle.ep_types.specs.Names.{Text, names_of}
+use Rattle.std.specs.Prelude.{◌≡◌, ℕ, ◌+◌, List, [], ◌∷◌, ◌++◌, Option, Some, None, map, unwrap_or, codes}
+use Rattle.ep_types.specs.Faults.{first_fault}
+use Rattle.ep_types.specs.Names.{Text, Typings, names_of}
 use Rattle.ep_types.specs.Atoms.{texts, atom_texts}
 use Rattle.ep_types.specs.Places.{Scope, closed, objective, with_params, NewName, ParamType, UsedName, Uses, nothing, both, at, each}
 use Rattle.ep_types.specs.Uses.{param_uses, atom_uses, fact_uses, group_uses, formula_uses}
@@ -74,14 +75,15 @@ abbrev pub after_fluents : Declared → List FluentTree → Declared
 after_fluents d [] = d
 after_fluents d (e ∷ es) = after_fluents (with_fluent d e) es
 
-abbrev pub kind_uses : Declared → ℕ → List Name → Uses
-kind_uses d n [] = nothing
-kind_uses d n (x ∷ xs) = both (at x.token (ParamType n x.text (names_of d.types))) (kind_uses d (n + 1) xs)
+-- parameter types, from this number on
+abbrev pub kind_uses : Typings → ℕ → List Name → Uses
+kind_uses types n [] = nothing
+kind_uses types n (x ∷ xs) = both (at x.token (ParamType n x.text (names_of types))) (kind_uses types (n + 1) xs)
 
 abbrev pub fluent_uses : Declared → List FluentTree → Uses
 fluent_uses d [] = nothing
 fluent_uses d (e ∷ es) =
-    both (at e.name.token (NewName e.name.text (names_of d.fluents))) (both (kind_uses d 0 e.kinds) (fluent_uses (with_fluent d e) es))
+    both (at e.name.token (NewName e.name.text (names_of d.fluents))) (both (kind_uses d.types 0 e.kinds) (fluent_uses (with_fluent d e) es))
 
 -- ---- worlds and links
 
@@ -199,5 +201,11 @@ declaration_uses d t =
 abbrev pub rest_uses : Declared → TaskTree → Uses
 rest_uses d t = both (init_uses t.init (objective d)) (both (schema_uses [] t.schemas d) (formula_uses t.goal (closed d)))
 
+abbrev pub task_uses_from : Declared → TaskTree → Uses
+task_uses_from d t = both (declaration_uses d t) (rest_uses (declarations_from d t) t)
+
 abbrev pub task_uses : TaskTree → Uses
-task_uses t = both (declaration_uses start t) (rest_uses (declarations t) t)
+task_uses t = task_uses_from start t
+
+abbrev pub HasNoFault : TaskTree → Type 0
+HasNoFault t = first_fault (task_uses t) ≡ None

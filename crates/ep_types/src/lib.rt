@@ -10,5 +10,8 @@ pub mod links;
 pub mod schema;
 pub mod scope;
 pub mod table;
+pub mod task;
+pub mod typed;
 
 pub use fault::{TypeError, TypeFault};
+pub use typed::{Typed, check, check_formula};

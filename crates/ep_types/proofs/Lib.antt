@@ -4,3 +4,4 @@ pub mod Arguments
 pub mod Formulas
 pub mod AtomLemmas
 pub mod Judged
+pub mod TypeOrder

@@ -24,6 +24,9 @@ declared x es = lookup (is_text x) es
 abbrev pub names_of : {V : Type 0} → List (Text × V) → List Text
 names_of es = map (λ e. e.0) es
 
+abbrev pub values_of : {V : Type 0} → List (Text × V) → List V
+values_of es = map (λ e. e.1) es
+
 -- entries of a map by their texts
 abbrev pub seen : {V : Type 0} → List (Vec ℕ × V) → List (Text × V)
 seen es = map (λ e. (e.0.items, e.1)) es

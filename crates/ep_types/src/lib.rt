@@ -12,6 +12,7 @@ pub mod scope;
 pub mod table;
 pub mod task;
 pub mod typed;
+pub mod types;
 
 pub use fault::{TypeError, TypeFault};
 pub use typed::{Typed, check, check_formula};

@@ -1,8 +1,8 @@
 //! Names with a value each, in order of declaration.
 
-ghost use Rattle.std.specs.Prelude.{◌≡◌, ◌++◌, ◌∷◌, [], ◌<◌, false, length, take, IfOk, OnOk, position};
+ghost use Rattle.std.specs.Prelude.{◌≡◌, ◌++◌, ◌∷◌, [], ◌<◌, false, length, take, IfOk, OnOk, position, slice_get, Some};
 ghost use Rattle.std.specs.Option.{option_copied};
-ghost use Rattle.ep_types.specs.Names.{declared, is_among, is_text, names_of};
+ghost use Rattle.ep_types.specs.Names.{declared, is_among, is_text, names_of, values_of};
 
 use ep_logic::{List, Text};
 use indexmap::IndexMap;
@@ -55,6 +55,22 @@ impl<V: Drop> Table<V> {
         ensures { result ≡ position (is_text name.now) (names_of self.now) }
     {
         self.map.get_index_of(name)
+    }
+
+    /// The name with a number.
+    pub fn name(&self, number: usize) -> &[u8]
+        requires { number < length self.now }
+        ensures { slice_get (names_of self.now) number ≡ Some result.now }
+    {
+        self.map.get_index(number).unwrap().0.as_slice()
+    }
+
+    /// The value with a number.
+    pub fn value(&self, number: usize) -> &V
+        requires { number < length self.now }
+        ensures { slice_get (values_of self.now) number ≡ Some result.now }
+    {
+        self.map.get_index(number).unwrap().1
     }
 
     pub fn len(&self) -> usize

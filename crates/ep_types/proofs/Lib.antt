@@ -5,3 +5,5 @@ pub mod Formulas
 pub mod AtomLemmas
 pub mod Judged
 pub mod TypeOrder
+pub mod Above
+pub mod Grown

@@ -1,11 +1,12 @@
 -- Entries of a map, and their texts.
-use Rattle.std.proofs.Common.{◌≡◌, ℕ, zero, suc, Bool, true, false, cond, not, ◌+◌, ◌||◌, List, [], ◌∷◌, ◌++◌, Option, Some, None, take, length, map, position, refl, ap, sym, ◌∙◌, is_some, nat_lt}
+use Rattle.std.proofs.Common.{◌≡◌, ℕ, zero, suc, Bool, true, false, cond, not, ◌+◌, ◌||◌, List, [], ◌∷◌, ◌++◌, Option, Some, None, slice_get, take, length, map, position, refl, ap, sym, ◌∙◌, is_some, nat_lt}
 use Rattle.std.specs.Global.{Vec}
 use Rattle.std.specs.Prelude.{nat_eq}
 use Rattle.std.specs.Cmp.Lexicographic.{pointwise}
 use Rattle.std.specs.List.{position_or_len}
+use Rattle.std.specs.Option.{option_map}
 use Rattle.std.specs.Map.{lookup, keys_of}
-use Rattle.ep_types.specs.Names.{Text, declared, seen, is_text, is_among, names_of}
+use Rattle.ep_types.specs.Names.{Text, declared, seen, is_text, is_among, names_of, values_of}
 
 pub lookup-seen : {V : Type 0} (q : Text) (es : List (Vec ℕ × V)) → lookup (λ k. pointwise nat_eq q k.items) es ≡ declared q (seen es)
 lookup-seen q [] = refl
@@ -38,6 +39,17 @@ declared-absent q es h = none_here (declared q es) (declared-among q es ∙ h)
 
 pub absent_among : {V : Type 0} (q : Text) (es : List (Text × V)) → declared q es ≡ None → is_among q (names_of es) ≡ false
 absent_among q es h = sym (declared-among q es) ∙ ap is_some h
+
+-- the name and the value with a number
+pub names-seen : {V : Type 0} (es : List (Vec ℕ × V)) (k : ℕ) → slice_get (names_of (seen es)) k ≡ option_map (λ e. e.0.items) (slice_get es k)
+names-seen [] k = refl
+names-seen (e ∷ es) zero = refl
+names-seen (e ∷ es) (suc k) = names-seen es k
+
+pub values-seen : {V : Type 0} (es : List (Vec ℕ × V)) (k : ℕ) → slice_get (values_of (seen es)) k ≡ option_map (λ e. e.1) (slice_get es k)
+values-seen [] k = refl
+values-seen (e ∷ es) zero = refl
+values-seen (e ∷ es) (suc k) = values-seen es k
 
 place_or_len-seen : {V : Type 0} (q : Text) (es : List (Vec ℕ × V)) → position_or_len (λ k. pointwise nat_eq q k.items) (keys_of es) ≡ position_or_len (is_text q) (names_of (seen es))
 place_or_len-seen q [] = refl

@@ -32,7 +32,7 @@ pub ups-add : (rows : Rows) (m n k : ℕ) → ups rows (m + n) k ≡ ups rows n 
 ups-add rows zero n k = let none : 0 + n ≡ n = omega arith in ap (λ i. ups rows i k) none
 ups-add rows (suc m) n k = let more : suc m + n ≡ suc (m + n) = omega arith in ap (λ i. ups rows i k) more ∙ ups-add rows m n (up_at rows k)
 
-climbs_step : (types : Typings) (above kind parent : Text) (m : ℕ) → is_text kind above ≡ false → declared kind types ≡ Some parent → climbs (suc m) types kind above ≡ climbs m types parent above
+pub climbs_step : (types : Typings) (above kind parent : Text) (m : ℕ) → is_text kind above ≡ false → declared kind types ≡ Some parent → climbs (suc m) types kind above ≡ climbs m types parent above
 climbs_step types above kind parent m other is =
     ap (λ b. b || option_map_or (λ p. climbs m types p above) (declared kind types) false) other
     ∙ ap (λ o. option_map_or (λ p. climbs m types p above) o false) is
@@ -58,11 +58,11 @@ module _ (rows : Rows) (linked : AreLinked rows) where
   up_lower (suc k) m k-in le = let l = (linked.each (suc k) k-in).lower (omega arith) in omega (arith, l)
 
   -- only the first type has depth 0
-  deep : (k : ℕ) → 0 < depth_at rows k → 0 < k
+  pub deep : (k : ℕ) → 0 < depth_at rows k → 0 < k
   deep zero d = absurd (omega (arith, linked.top))
   deep (suc k) d = omega arith
 
-  parent_declared : (k : ℕ) → k < length rows → declared (name_at rows k) (typings rows) ≡ Some (name_at rows (up_at rows k))
+  pub parent_declared : (k : ℕ) → k < length rows → declared (name_at rows k) (typings rows) ≡ Some (name_at rows (up_at rows k))
   parent_declared k k-in =
       let here = linked.each k k-in in
       first_declared (name_at rows k) rows k k-in (text_itself (name_at rows k)) (λ j l. here.first j l) ∙ ap Some here.parent
@@ -146,8 +146,10 @@ module _ (rows : Rows) (linked : AreLinked rows) where
       where
         equal : (i j : ℕ) → nat_eq i j ≡ true → i ≡ j
         equal i j h = grind arith
+
         other : (i j : ℕ) → nat_eq i j ≡ false → i ≢ j
         other i j h = grind arith
+
         by : (b : Bool) → nat_eq k a ≡ b → is_below (typings rows) (name_at rows k) (name_at rows a) ≡ b
         by true e = ap (λ i. is_below (typings rows) (name_at rows i) (name_at rows a)) (equal k a e) ∙ below_itself
         by false e = let le : k ≤ k = omega arith in shallow k k le k-in (other k a e) d

@@ -1,6 +1,6 @@
 //! Names with a value each, in order of declaration.
 
-ghost use Rattle.std.specs.Prelude.{◌≡◌, ◌++◌, ◌∷◌, [], ◌<◌, false, length, take, IfOk, OnOk, position, slice_get, Some};
+ghost use Rattle.std.specs.Prelude.{◌≡◌, ◌++◌, ◌∷◌, [], ◌<◌, false, length, take, IfOk, OnErr, OnOk, is_some, position, slice_get, Some};
 ghost use Rattle.std.specs.Option.{option_copied};
 ghost use Rattle.ep_types.specs.Names.{declared, is_among, is_text, names_of, values_of};
 
@@ -52,7 +52,8 @@ impl<V: Drop> Table<V> {
 
     /// The number of the first pair with a name.
     pub fn index(&self, name: &[u8]) -> Option<usize>
-        ensures { result ≡ position (is_text name.now) (names_of self.now) }
+        ensures place { result ≡ position (is_text name.now) (names_of self.now) }
+        ensures found { is_some result ≡ is_among name.now (names_of self.now) }
     {
         self.map.get_index_of(name)
     }
@@ -82,7 +83,8 @@ impl<V: Drop> Table<V> {
     /// Adds a name that is not there, at the end.
     pub fn add(&mut self, alloc: Global, name: &[u8], value: V) -> Result<(), AllocError>
         requires { is_among name.now (names_of self.old) ≡ false }
-        ensures { OnOk result (self.new ≡ self.old ++ (name.now, value) ∷ []) }
+        ensures ok { OnOk result (self.new ≡ self.old ++ (name.now, value) ∷ []) }
+        ensures err { OnErr result (self.new ≡ self.old) }
     {
         let key = Vec::from_slice(alloc, name)?;
         self.map.insert(key, value)?;

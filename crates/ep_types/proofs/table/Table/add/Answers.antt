@@ -7,8 +7,8 @@ use Rattle.ep_types.proofs.NamesLemmas.{seen-append, lookup-seen, declared-absen
 use Rattle.indexmap.proofs.CallerLemmas.{insert_entry-new}
 use Rattle.ep_types.proofs.table.Table.add.Goals as goal
 
-pub returns : goal.returns
-returns g c =
+pub returns-clause-ok : goal.returns-clause-ok
+returns-clause-ok g c =
     let es = c.self.inside.map.entries in
     let name = c.in_ok-key.ensures.items in
     let none : lookup (λ k. pointwise nat_eq c.in_ok-key.key.items k.items) es ≡ None =

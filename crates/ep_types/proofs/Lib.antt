@@ -1,5 +1,4 @@
 pub mod NamesLemmas
-pub mod Climbs
 pub mod Arguments
 pub mod Formulas
 pub mod AtomLemmas

@@ -6,7 +6,7 @@ ghost use Rattle.ep_types.specs.Places.{scope, with_params, both};
 ghost use Rattle.ep_types.specs.Uses.{param_uses, knower_uses, knowers_uses, equality_uses, formula_uses, formulas_uses};
 
 use crate::fault::TypeError;
-use crate::judge::{agent, atom, group, knowledge, new_param, used_name, used_object};
+use crate::judge::{agent, atom, group, knowledge, new_param, used_object, used_type};
 use crate::scope::{Declared, Frame};
 use crate::table::copy_text;
 use ep_syntax::{FormulaTree, GroupTree, Name, ParamTree};
@@ -25,7 +25,7 @@ pub fn bring(
 {
     for (number, param) in list.iter().enumerate() {
         new_param(names, frame, number, &param.name)?;
-        used_name(&names.types, &param.kind)?;
+        used_type(&names.types, &param.kind)?;
         let kind = copy_text(alloc, &param.kind.text)?;
         frame.params.add(alloc, param.name.text.as_slice(), kind)?;
     }

@@ -1,15 +1,16 @@
 //! The fault at one token, and at the names of a list. Nothing here takes memory.
 
-ghost use Rattle.std.specs.Prelude.{◌≡◌, length, codes};
+ghost use Rattle.std.specs.Prelude.{◌≡◌, length};
 ghost use Rattle.ep_types.specs.Faults.{first_fault, told, IsJudged};
-ghost use Rattle.ep_types.specs.Names.{is_below, names_of};
+ghost use Rattle.ep_types.specs.Names.{names_of};
 ghost use Rattle.ep_types.specs.Places.{at, scope, NewName, NewParam, ParamType, UsedName, UsedObject, Argument, Agent, Knowledge};
 ghost use Rattle.ep_types.specs.Uses.{agent_uses, group_uses, argument_uses, atom_uses, fact_uses};
 
 use crate::atoms::AtomSet;
 use crate::fault::{TypeError, TypeFault};
-use crate::scope::{Declared, Frame, is_below, type_of};
+use crate::scope::{Declared, Frame, type_of};
 use crate::table::Table;
+use crate::types::Types;
 use ep_logic::List;
 use ep_syntax::{AtomTree, GroupTree, Name};
 use std::alloc::Global;
@@ -24,7 +25,7 @@ pub fn at_name(fault: TypeFault, name: &Name) -> Result<(), TypeError>
     })
 }
 
-/// A declared name.
+/// A declared object, fluent, schema, world or event.
 pub fn new_name<V: Drop>(list: &Table<V>, name: &Name) -> Result<(), TypeError>
     ensures { result ≡ told (first_fault (at name.now.token (NewName name.now.text (names_of list.now)))) }
 {
@@ -34,8 +35,28 @@ pub fn new_name<V: Drop>(list: &Table<V>, name: &Name) -> Result<(), TypeError>
     Ok(())
 }
 
-/// A used type, world or event.
-pub fn used_name<V: Drop>(list: &Table<V>, name: &Name) -> Result<(), TypeError>
+/// A declared type.
+pub fn new_type(types: &Types, name: &Name) -> Result<(), TypeError>
+    ensures { result ≡ told (first_fault (at name.now.token (NewName name.now.text (names_of types.now)))) }
+{
+    if types.has(name.text.as_slice()) {
+        return at_name(TypeFault::Duplicate, name);
+    }
+    Ok(())
+}
+
+/// A used type.
+pub fn used_type(types: &Types, name: &Name) -> Result<(), TypeError>
+    ensures { result ≡ told (first_fault (at name.now.token (UsedName name.now.text (names_of types.now)))) }
+{
+    if types.has(name.text.as_slice()) {
+        return Ok(());
+    }
+    at_name(TypeFault::Unknown, name)
+}
+
+/// A used world or event.
+pub fn used_name(list: &Table<()>, name: &Name) -> Result<(), TypeError>
     ensures { result ≡ told (first_fault (at name.now.token (UsedName name.now.text (names_of list.now)))) }
 {
     if list.has(name.text.as_slice()) {
@@ -63,7 +84,7 @@ pub fn new_param(
 }
 
 /// A parameter type of a fluent with its number in its list.
-pub fn param_type<V: Drop>(types: &Table<V>, number: usize, name: &Name) -> Result<(), TypeError>
+pub fn param_type(types: &Types, number: usize, name: &Name) -> Result<(), TypeError>
     ensures { result ≡ told (first_fault (at name.now.token (ParamType number name.now.text (names_of types.now)))) }
 {
     if number == 6 {
@@ -97,20 +118,13 @@ pub fn argument(
     match type_of(names, frame, name.text.as_slice()) {
         None => at_name(TypeFault::Unknown, name),
         Some(kind) => {
-            if is_below(&names.types, kind.as_slice(), wanted) {
+            if names.types.is_below(kind.as_slice(), wanted) {
                 Ok(())
             } else {
                 at_name(TypeFault::WrongType, name)
             }
         }
     }
-}
-
-/// Whether a type is `agent` or below it.
-fn is_agent(types: &Table<List<u8>>, kind: &[u8]) -> bool
-    ensures { result ≡ is_below types.now kind.now (codes "agent") }
-{
-    is_below(types, kind, b"agent")
 }
 
 /// A name after `knows` or in a group.
@@ -120,7 +134,7 @@ pub fn agent(names: &Declared, frame: &Frame, name: &Name) -> Result<(), TypeErr
     match type_of(names, frame, name.text.as_slice()) {
         None => at_name(TypeFault::Unknown, name),
         Some(kind) => {
-            if is_agent(&names.types, kind.as_slice()) {
+            if names.types.is_below(kind.as_slice(), b"agent") {
                 Ok(())
             } else {
                 at_name(TypeFault::NotAgent, name)

@@ -1,18 +1,18 @@
-//! The names that are declared, and the order of types.
+//! The names that are declared, and the parameters in force.
 
 ghost use Rattle.std.specs.Prelude.{◌≡◌, []};
 ghost use Rattle.std.specs.Option.{option_copied};
-ghost use Rattle.ep_types.specs.Names.{is_below};
 ghost use Rattle.ep_types.specs.Places as spec;
 
 use crate::table::Table;
+use crate::types::Types;
 use ep_logic::List;
 use std::alloc::Global;
 
 /// The names that are declared: types with their parents, objects with their types, and fluents with the types of their parameters.
 #[derive(Drop)]
 pub struct Declared {
-    pub types: Table<List<u8>>,
+    pub types: Types,
     pub objects: Table<List<u8>>,
     pub fluents: Table<List<List<u8>>>,
 }
@@ -33,23 +33,6 @@ impl Frame {
             knowledge,
         }
     }
-}
-
-/// Whether a type is another one or below it.
-pub fn is_below(types: &Table<List<u8>>, kind: &[u8], above: &[u8]) -> bool
-    ensures { result ≡ is_below types.now kind.now above.now }
-{
-    let mut at = kind;
-    for _ in 0..types.len() {
-        if at == above {
-            return true;
-        }
-        match types.get(at) {
-            None => return false,
-            Some(parent) => at = parent.as_slice(),
-        }
-    }
-    at == above
 }
 
 /// The type of a parameter in force, or else of an object.

@@ -10,10 +10,11 @@ ghost use Rattle.ep_types.specs.Uses.{formula_uses};
 use crate::fault::TypeError;
 use crate::formula::formula;
 use crate::init::init;
-use crate::judge::{new_name, param_type, used_name};
+use crate::judge::{new_name, new_type, param_type, used_type};
 use crate::schema::schemas;
 use crate::scope::{Declared, Frame};
 use crate::table::{Table, copy_text};
+use crate::types::Types;
 use ep_logic::List;
 use ep_syntax::{FluentTree, FormulaTree, Name, ObjectTree, TaskTree, TypeTree};
 use std::alloc::{AllocError, Global};
@@ -22,17 +23,7 @@ use std::alloc::{AllocError, Global};
 fn start(alloc: Global) -> Result<Declared, AllocError>
     ensures { IfOk result (λ names. names ≡ spec.start) }
 {
-    let mut types = Table::new(alloc);
-    types.add(
-        alloc,
-        b"object",
-        List::from_vec(Vec::from_slice(alloc, b"object")?),
-    )?;
-    types.add(
-        alloc,
-        b"agent",
-        List::from_vec(Vec::from_slice(alloc, b"object")?),
-    )?;
+    let types = Types::start(alloc)?;
     Ok(Declared {
         types,
         objects: Table::new(alloc),
@@ -45,9 +36,9 @@ fn types(alloc: Global, names: &mut Declared, list: &[TypeTree]) -> Result<(), T
     ensures after { OnOk result (names.new ≡ spec.after_types names.old list.now) }
 {
     for entry in list {
-        new_name(&names.types, &entry.name)?;
-        used_name(&names.types, &entry.parent)?;
-        let parent = copy_text(alloc, &entry.parent.text)?;
+        new_type(&names.types, &entry.name)?;
+        used_type(&names.types, &entry.parent)?;
+        let parent = entry.parent.text.as_slice();
         names.types.add(alloc, entry.name.text.as_slice(), parent)?;
     }
     Ok(())
@@ -72,13 +63,13 @@ fn objects(alloc: Global, names: &mut Declared, list: &[ObjectTree]) -> Result<(
 {
     for entry in list {
         alike(alloc, names, &entry.kind, entry.names.as_slice())?;
-        used_name(&names.types, &entry.kind)?;
+        used_type(&names.types, &entry.kind)?;
     }
     Ok(())
 }
 
 /// The parameter types of a fluent.
-fn kinds(types: &Table<List<u8>>, list: &[Name]) -> Result<(), TypeError>
+fn kinds(types: &Types, list: &[Name]) -> Result<(), TypeError>
     ensures { IsJudged (spec.kind_uses types.now 0 list.now) result }
 {
     for (number, kind) in list.iter().enumerate() {

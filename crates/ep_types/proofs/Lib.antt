@@ -6,3 +6,5 @@ pub mod Judged
 pub mod TypeOrder
 pub mod Above
 pub mod Grown
+pub mod Orders
+pub mod Reaching

@@ -24,7 +24,7 @@ first_declared x (e ∷ es) (suc k) h here before =
     let left : k < length es = omega arith in
     ap (λ b. cond b (Some e.1.parent) (declared x (typings es))) other ∙ first_declared x es k left here (λ j l. before (suc j) (omega arith))
 
-typings_long : (rows : Rows) → length (typings rows) ≡ length rows
+pub typings_long : (rows : Rows) → length (typings rows) ≡ length rows
 typings_long [] = refl
 typings_long (e ∷ es) = ap suc (typings_long es)
 
@@ -37,7 +37,7 @@ climbs_step types above kind parent m other is =
     ap (λ b. b || option_map_or (λ p. climbs m types p above) (declared kind types) false) other
     ∙ ap (λ o. option_map_or (λ p. climbs m types p above) o false) is
 
-climbs_here : (types : Typings) (kind above : Text) (m : ℕ) → is_text kind above ≡ true → climbs m types kind above ≡ true
+pub climbs_here : (types : Typings) (kind above : Text) (m : ℕ) → is_text kind above ≡ true → climbs m types kind above ≡ true
 climbs_here types kind above zero same = same
 climbs_here types kind above (suc m) same = ap (λ b. b || option_map_or (λ p. climbs m types p above) (declared kind types) false) same
 
@@ -71,29 +71,29 @@ module _ (rows : Rows) (linked : AreLinked rows) where
   ups_in zero k k-in = k-in
   ups_in (suc m) k k-in = ups_in m (up_at rows k) (up_in k k-in)
 
+  -- one step more changes nothing, where there are as many as types before
+  pub enough : (above : Text) (m k : ℕ) → k ≤ m → k < length rows → climbs (suc m) (typings rows) (name_at rows k) above ≡ climbs m (typings rows) (name_at rows k) above
+  enough above zero k le k-in =
+      let e : k ≡ 0 = omega arith in
+      let up : up_at rows k ≡ k = ap (up_at rows) e ∙ linked.root ∙ sym e in
+      ap (λ o. is_text (name_at rows k) above || option_map_or (λ p. is_text p above) o false) (parent_declared k k-in)
+      ∙ ap (λ i. is_text (name_at rows k) above || is_text (name_at rows i) above) up ∙ twice (is_text (name_at rows k) above)
+    where
+      twice : (b : Bool) → (b || b) ≡ b
+      twice true = refl
+      twice false = refl
+  enough above (suc m) k le k-in =
+      let is = parent_declared k k-in in
+      ap (λ o. is_text (name_at rows k) above || option_map_or (λ p. climbs (suc m) (typings rows) p above) o false) is
+      ∙ ap (λ b. is_text (name_at rows k) above || b) (enough above m (up_at rows k) (up_lower k m k-in le) (up_in k k-in))
+      ∙ ap (λ o. is_text (name_at rows k) above || option_map_or (λ p. climbs m (typings rows) p above) o false) (sym is)
+
   module _ (a : ℕ) (a-in : a < length rows) where
     at_other : (k : ℕ) → k < length rows → k ≢ a → is_text (name_at rows k) (name_at rows a) ≡ false
     at_other k k-in ne = apart k a k-in a-in ∙ other k a ne
       where
         other : (i j : ℕ) → i ≢ j → nat_eq i j ≡ false
         other i j h = grind arith
-
-    -- one step more changes nothing, where there are as many as types before
-    enough : (m k : ℕ) → k ≤ m → k < length rows → climbs (suc m) (typings rows) (name_at rows k) (name_at rows a) ≡ climbs m (typings rows) (name_at rows k) (name_at rows a)
-    enough zero k le k-in =
-        let e : k ≡ 0 = omega arith in
-        let up : up_at rows k ≡ k = ap (up_at rows) e ∙ linked.root ∙ sym e in
-        ap (λ o. is_text (name_at rows k) (name_at rows a) || option_map_or (λ p. is_text p (name_at rows a)) o false) (parent_declared k k-in)
-        ∙ ap (λ i. is_text (name_at rows k) (name_at rows a) || is_text (name_at rows i) (name_at rows a)) up ∙ twice (is_text (name_at rows k) (name_at rows a))
-      where
-        twice : (b : Bool) → (b || b) ≡ b
-        twice true = refl
-        twice false = refl
-    enough (suc m) k le k-in =
-        let is = parent_declared k k-in in
-        ap (λ o. is_text (name_at rows k) (name_at rows a) || option_map_or (λ p. climbs (suc m) (typings rows) p (name_at rows a)) o false) is
-        ∙ ap (λ b. is_text (name_at rows k) (name_at rows a) || b) (enough m (up_at rows k) (up_lower k m k-in le) (up_in k k-in))
-        ∙ ap (λ o. is_text (name_at rows k) (name_at rows a) || option_map_or (λ p. climbs m (typings rows) p (name_at rows a)) o false) (sym is)
 
     pub below_itself : is_below (typings rows) (name_at rows a) (name_at rows a) ≡ true
     below_itself = climbs_here (typings rows) (name_at rows a) (name_at rows a) (length (typings rows)) (text_itself (name_at rows a))
@@ -113,7 +113,7 @@ module _ (rows : Rows) (linked : AreLinked rows) where
         let le : k ≤ suc n.0 = omega (arith, l, e) in
         ap (λ i. climbs i (typings rows) (name_at rows k) (name_at rows a)) e
         ∙ climbs_step (typings rows) (name_at rows a) (name_at rows k) (name_at rows (up_at rows k)) n.0 (at_other k k-in ne) (parent_declared k k-in)
-        ∙ sym (enough n.0 (up_at rows k) (up_lower k n.0 k-in le) (up_in k k-in))
+        ∙ sym (enough (name_at rows a) n.0 (up_at rows k) (up_lower k n.0 k-in le) (up_in k k-in))
         ∙ ap (λ i. climbs i (typings rows) (name_at rows (up_at rows k)) (name_at rows a)) (sym e)
       where
         one_less : (n : ℕ) → 0 < n → (m : ℕ) × (n ≡ suc m)

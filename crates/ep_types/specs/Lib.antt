@@ -1,5 +1,6 @@
 pub mod Atoms
 pub mod Faults
+pub mod Laws
 pub mod Links
 pub mod Names
 pub mod Places

@@ -1,5 +1,5 @@
 -- Names, what is declared at them, and the order of types.
-use Rattle.std.specs.Prelude.{ℕ, zero, suc, Bool, false, ◌||◌, nat_eq, List, length, Option, map}
+use Rattle.std.specs.Prelude.{◌≡◌, ℕ, zero, suc, Bool, false, ◌||◌, nat_eq, List, length, Option, Some, map}
 use Rattle.std.specs.Global.{Vec}
 use Rattle.std.specs.Cmp.Lexicographic.{pointwise}
 use Rattle.std.specs.List.{list_any}
@@ -43,3 +43,8 @@ climbs (suc n) types kind above = is_text kind above || option_map_or (λ parent
 -- whether a type is another one or below it
 abbrev pub is_below : Typings → Text → Text → Bool
 is_below types kind above = climbs (length types) types kind above
+
+-- a type reaches another through parents
+pub data Reaches (types : Typings) : Text → Text → Type 0 where
+  itself : {kind : Text} → Reaches types kind kind
+  through : {kind parent above : Text} → declared kind types ≡ Some parent → Reaches types parent above → Reaches types kind above

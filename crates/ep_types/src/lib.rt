@@ -6,6 +6,7 @@ pub mod fault;
 pub mod formula;
 pub mod init;
 pub mod judge;
+pub mod laws;
 pub mod links;
 pub mod schema;
 pub mod scope;

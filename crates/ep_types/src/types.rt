@@ -1,8 +1,8 @@
 //! Types, and their order.
 
-ghost use Rattle.std.specs.Prelude.{◌≡◌, ◌+◌, ◌++◌, ◌∷◌, [], ◌<◌, ◌≤◌, false, true, codes, length, IfOk, OnOk};
+ghost use Rattle.std.specs.Prelude.{◌≡◌, ◌+◌, ◌++◌, ◌∷◌, [], ◌<◌, ◌≤◌, false, true, codes, length, IsTrue, ◌↔◌, IfOk, OnOk};
 ghost use Rattle.ep_types.specs.Links.{AreLinked, IsAbove, depth_at, far_at, name_at, typings, up_at};
-ghost use Rattle.ep_types.specs.Names.{is_among, is_below, names_of};
+ghost use Rattle.ep_types.specs.Names.{is_among, is_below, names_of, Reaches};
 
 use crate::table::Table;
 use ep_logic::List;
@@ -145,6 +145,20 @@ fn row_below(
     })
 }
 
+/// Whether a type is another one or below it, by their names.
+fn below(rows: &Table<TypeRow>, kind: &[u8], above: &[u8]) -> bool
+    requires { AreLinked rows.now }
+    ensures { result ≡ is_below (typings rows.now) kind.now above.now }
+{
+    match rows.index(kind) {
+        None => kind == above,
+        Some(low) => match rows.index(above) {
+            None => false,
+            Some(high) => climbs_to(rows, low, high),
+        },
+    }
+}
+
 fn first_types(alloc: Global) -> Result<Types, AllocError>
     ensures { IfOk result (λ types. types ≡ (codes "object", codes "object") ∷ []) }
 {
@@ -180,17 +194,12 @@ impl Types {
         self.rows.has(name)
     }
 
-    /// Whether a type is another one or below it.
+    /// Whether a type is another one or below it, which is whether it reaches it through parents.
     pub fn is_below(&self, kind: &[u8], above: &[u8]) -> bool
-        ensures { result ≡ is_below self.now kind.now above.now }
+        ensures value { result ≡ is_below self.now kind.now above.now }
+        ensures reaches { IsTrue result ↔ Reaches self.now kind.now above.now }
     {
-        match self.rows.index(kind) {
-            None => kind == above,
-            Some(low) => match self.rows.index(above) {
-                None => false,
-                Some(high) => climbs_to(&self.rows, low, high),
-            },
-        }
+        below(&self.rows, kind, above)
     }
 
     /// Adds a type that is not there, below one that is.

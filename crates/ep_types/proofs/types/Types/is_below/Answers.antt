@@ -1,33 +1,16 @@
-use Rattle.std.proofs.Common.{◌≡◌, Bool, sym, ap, ◌∙◌, length}
-use Rattle.ep_types.specs.Names.{climbs, is_below, is_text}
-use Rattle.ep_types.specs.Links.{typings, name_at}
-use Rattle.ep_types.proofs.Grown.{below_nowhere, below_unknown, found_at, names_typed}
-use Rattle.ep_types.specs.Names.{is_among, names_of}
+use Rattle.std.proofs.Common.{◌≡◌, ap, sym, subst, ◌∙◌, IsTrue, ◌↔◌, Bool}
+use Rattle.ep_types.specs.Names.{Typings, is_below, Reaches}
+use Rattle.ep_types.specs.Links.{typings}
+use Rattle.ep_types.proofs.Reaching.{below_reaches}
 use Rattle.ep_types.proofs.types.Types.is_below.Goals as goal
 
-pub returns-in-None : goal.returns-in-None
-returns-in-None c =
-    let rows = c.self.inside.rows in
-    let kind = c.args.kind.now in
-    let above = c.args.above.now in
-    let none = ap (is_among kind) (names_typed rows) ∙ sym c.in-None.ensures.found in
-    c.eq.ensures ∙ sym (below_unknown (typings rows) kind above (length (typings rows)) none) ∙ ap (λ types. is_below types kind above) c.self.view_is
+pub returns-clause-value : goal.returns-clause-value
+returns-clause-value c = c.below.ensures ∙ ap (λ types. is_below types c.args.kind.now c.args.above.now) c.self.view_is
 
-pub returns-in-None-index : goal.returns-in-None-index
-returns-in-None-index c =
-    let rows = c.self.inside.rows in
+pub returns-clause-reaches : goal.returns-clause-reaches
+returns-clause-reaches c =
     let kind = c.args.kind.now in
     let above = c.args.above.now in
-    let low = found_at kind rows c.in-Some.low (sym c.in-Some.ensures.place) in
-    let none = sym c.in-None-index.ensures.found in
-    sym (below_nowhere rows c.self.invariant above (length (typings rows)) c.in-Some.low none low.0)
-    ∙ ap (λ x. is_below (typings rows) x above) (sym low.1) ∙ ap (λ types. is_below types kind above) c.self.view_is
-
-pub returns-in-Some-index : goal.returns-in-Some-index
-returns-in-Some-index c =
-    let rows = c.self.inside.rows in
-    let kind = c.args.kind.now in
-    let above = c.args.above.now in
-    let low = found_at kind rows c.in-Some.low (sym c.in-Some.ensures.place) in
-    let high = found_at above rows c.in-Some-index.high (sym c.in-Some-index.ensures.place) in
-    c.climbs_to.ensures ∙ (λ i. is_below (typings rows) (sym low.1 i) (sym high.1 i)) ∙ ap (λ types. is_below types kind above) c.self.view_is
+    let At : Typings → Type 0 = λ types. IsTrue (is_below types kind above) ↔ Reaches types kind above in
+    let Test : Bool → Type 0 = λ b. IsTrue b ↔ Reaches c.args.self.now kind above in
+    subst Test (sym (c.below.ensures ∙ ap (λ types. is_below types kind above) c.self.view_is)) (subst At c.self.view_is (below_reaches c.self.inside.rows c.self.invariant kind above))

@@ -1,10 +1,10 @@
 -- Types above others.
-use Rattle.std.proofs.Common.{◌≡◌, ℕ, zero, suc, ◌+◌, ◌-◌, ◌<◌, ◌≤◌, List, [], ◌∷◌, length, map, get_or, slice_get, Some, refl, ap, sym, ◌∙◌, subst, arith}
-use Rattle.std.proofs.lemmas.Option.{slice_get-map, get_or_from_slice_get}
+use Rattle.std.proofs.Common.{◌≡◌, ℕ, zero, suc, ◌+◌, ◌-◌, ◌<◌, ◌≤◌, [], ◌∷◌, length, map, get_or, slice_get, Some, refl, ap, sym, ◌∙◌, subst, arith}
+use Rattle.std.proofs.lemmas.Option.{get_or_from_slice_get}
 use Rattle.std.specs.Option.{option_map}
 use Rattle.ep_types.specs.Names.{values_of}
-use Rattle.ep_types.specs.Links.{Rows, up_at, far_at, depth_at, ups, IsAbove, AreLinked}
-use Rattle.ep_types.proofs.TypeOrder.{ups-add, ups_in, up_in, deep}
+use Rattle.ep_types.specs.Links.{Rows, up_at, depth_at, ups, IsAbove, AreLinked}
+use Rattle.ep_types.proofs.TypeOrder.{ups-add, ups_in, up_in}
 use Rattle.ep_types.specs.declared.types.TypeRow.{TypeRow}
 
 column : (f : TypeRow → ℕ) (rows : Rows) (k : ℕ) → slice_get (map (λ e. f e.1) rows) k ≡ option_map f (slice_get (values_of rows) k)

@@ -1,5 +1,5 @@
 -- Arguments and their types, side by side.
-use Rattle.std.proofs.Common.{◌≡◌, ℕ, zero, suc, ◌+◌, ◌<◌, List, [], ◌∷◌, length, drop, get_or, Option, Some, None, Ok, Err, refl, ap, ◌∙◌, add-one, drop-cons}
+use Rattle.std.proofs.Common.{◌≡◌, ℕ, ◌+◌, ◌<◌, List, length, drop, get_or, Option, Some, None, Err, refl, add-one, drop-cons}
 use Rattle.ep_types.specs.Names.{Text}
 use Rattle.ep_types.specs.Places.{Scope, Argument, Uses, both, at}
 use Rattle.ep_types.specs.Faults.{first_fault, or_else, told}

@@ -1,10 +1,10 @@
 -- One type more.
-use Rattle.std.proofs.Common.{◌≡◌, ◌≢◌, ℕ, zero, suc, ◌+◌, ◌-◌, ◌<◌, ◌≤◌, ◌⊎◌, inl, inr, true, false, ◌||◌, Bool, List, [], ◌∷◌, ◌++◌, length, map, get_or, slice_get, Some, refl, ap, sym, ◌∙◌, subst, arith, length-append}
+use Rattle.std.proofs.Common.{◌≡◌, ℕ, zero, suc, ◌+◌, ◌-◌, ◌<◌, ◌⊎◌, inl, inr, true, false, ◌||◌, Bool, [], ◌∷◌, ◌++◌, length, map, get_or, Some, refl, ap, sym, ◌∙◌, subst, arith, length-append}
 use Rattle.std.proofs.lemmas.List.Quantifiers.{position-Some}
 use Rattle.std.specs.Cmp.Lexicographic.{bytes_decides}
 use Rattle.std.specs.List.{position}
 use Rattle.std.specs.Option.{option_map_or}
-use Rattle.ep_types.specs.Names.{Text, Typings, climbs, is_text, is_among, names_of, values_of}
+use Rattle.ep_types.specs.Names.{Text, Typings, climbs, is_text, is_among, names_of}
 use Rattle.ep_types.specs.Links.{Rows, typings, name_at, parent_at, up_at, far_at, depth_at, ups, IsAbove, IsLinked, AreLinked}
 use Rattle.ep_types.proofs.TypeOrder.{climbs_step, parent_declared, text_flips, up_in}
 use Rattle.ep_types.proofs.NamesLemmas.{declared-absent}

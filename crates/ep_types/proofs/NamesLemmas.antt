@@ -1,5 +1,5 @@
 -- Entries of a map, and their texts.
-use Rattle.std.proofs.Common.{◌≡◌, ℕ, zero, suc, Bool, true, false, cond, not, ◌+◌, ◌||◌, List, [], ◌∷◌, ◌++◌, Option, Some, None, slice_get, take, length, map, position, refl, ap, sym, ◌∙◌, is_some, nat_lt}
+use Rattle.std.proofs.Common.{◌≡◌, ℕ, zero, suc, Bool, true, false, cond, not, ◌+◌, ◌||◌, List, [], ◌∷◌, ◌++◌, Option, Some, None, slice_get, take, length, position, refl, ap, sym, ◌∙◌, is_some, nat_lt}
 use Rattle.std.specs.Global.{Vec}
 use Rattle.std.specs.Prelude.{nat_eq}
 use Rattle.std.specs.Cmp.Lexicographic.{pointwise}

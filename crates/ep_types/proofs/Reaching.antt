@@ -1,5 +1,5 @@
 -- A type is below another exactly where it reaches it through parents.
-use Rattle.std.proofs.Common.{◌≡◌, ℕ, zero, suc, ◌≤◌, ◌<◌, Bool, true, false, ◌||◌, IsTrue, ◌↔◌, List, [], ◌∷◌, cond, length, Option, Some, None, refl, ap, sym, ◌∙◌, subst, arith}
+use Rattle.std.proofs.Common.{◌≡◌, ℕ, zero, suc, ◌≤◌, ◌<◌, Bool, true, false, ◌||◌, IsTrue, ◌↔◌, [], ◌∷◌, cond, length, Option, Some, None, refl, ap, sym, ◌∙◌, subst, arith}
 use Rattle.std.specs.Option.{option_map_or}
 use Rattle.std.specs.Cmp.Lexicographic.{bytes_decides}
 use Rattle.ep_types.specs.Names.{Text, Typings, declared, is_text, climbs, is_below, Reaches, itself, through}

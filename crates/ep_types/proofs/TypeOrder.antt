@@ -1,10 +1,9 @@
 -- The order of types, by their numbers.
-use Rattle.std.proofs.Common.{◌≡◌, ◌≢◌, ℕ, zero, suc, ◌+◌, ◌-◌, ◌<◌, ◌≤◌, Bool, true, false, ◌||◌, cond, IsTrue, List, [], ◌∷◌, length, map, get_or, Option, Some, None, nat_eq, refl, ap, sym, ◌∙◌, subst, arith}
+use Rattle.std.proofs.Common.{◌≡◌, ◌≢◌, ℕ, zero, suc, ◌+◌, ◌<◌, ◌≤◌, Bool, true, false, ◌||◌, cond, [], ◌∷◌, length, Some, nat_eq, refl, ap, sym, ◌∙◌, subst, arith}
 use Rattle.std.proofs.lemmas.Cmp.{nat_list_eq_equiv}
 use Rattle.std.specs.Option.{option_map_or}
-use Rattle.ep_types.specs.Names.{Text, Typings, is_text, declared, climbs, is_below, names_of}
-use Rattle.ep_types.specs.Links.{Rows, typings, name_at, parent_at, up_at, far_at, depth_at, ups, IsAbove, IsLinked, AreLinked}
-use Rattle.ep_types.specs.declared.types.TypeRow.{TypeRow}
+use Rattle.ep_types.specs.Names.{Text, Typings, is_text, declared, climbs, is_below}
+use Rattle.ep_types.specs.Links.{Rows, typings, name_at, parent_at, up_at, depth_at, ups, AreLinked}
 
 pub text_itself : (x : Text) → is_text x x ≡ true
 text_itself x = nat_list_eq_equiv.refl x

@@ -1,9 +1,9 @@
 -- The table of faults, row by row, and the first fault.
-use Rattle.std.specs.Prelude.{◌≡◌, ℕ, Bool, true, false, not, nat_eq, ◌||◌, List, [], ◌∷◌, length, Option, Some, None, Result, Ok, Err, MatchResult, if◌then◌else◌, codes}
+use Rattle.std.specs.Prelude.{◌≡◌, ℕ, Bool, false, not, nat_eq, List, [], ◌∷◌, length, Option, Some, None, Result, Ok, Err, MatchResult, if◌then◌else◌, codes}
 use Rattle.std.specs.Option.{is_some, is_none}
 use Rattle.ep_types.specs.Atoms.{has_atom}
 use Rattle.ep_types.specs.Names.{Text, Typings, declared, is_among, is_below}
-use Rattle.ep_types.specs.Places.{Scope, type_of, Place, NewName, NewParam, ParamType, UsedName, UsedObject, UsedFluent, Fact, Argument, Agent, Group, Knowledge, Use, Uses, nothing, one, both}
+use Rattle.ep_types.specs.Places.{type_of, Place, NewName, NewParam, ParamType, UsedName, UsedObject, UsedFluent, Fact, Argument, Agent, Group, Knowledge, Use, Uses, nothing, one, both}
 use Rattle.ep_types.specs.declared.fault.TypeFault.{TypeFault}
 use Rattle.ep_types.specs.declared.fault.TypeFault.TheVariants.{TooManyParameters, Duplicate, Unknown, WrongArity, WrongType, NotAgent, EmptyGroup, NotObjective}
 use Rattle.ep_types.specs.declared.fault.TypeError.{TypeError}

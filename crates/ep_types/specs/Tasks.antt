@@ -1,5 +1,5 @@
 -- What stands at the tokens of a task, in file order, each with the names that are declared before it.
-use Rattle.std.specs.Prelude.{◌≡◌, ℕ, ◌+◌, List, [], ◌∷◌, ◌++◌, Option, Some, None, map, unwrap_or, codes}
+use Rattle.std.specs.Prelude.{◌≡◌, ℕ, ◌+◌, List, [], ◌∷◌, ◌++◌, Option, None, map, unwrap_or, codes}
 use Rattle.ep_types.specs.Faults.{first_fault}
 use Rattle.ep_types.specs.Names.{Text, Typings, names_of}
 use Rattle.ep_types.specs.Atoms.{texts, atom_texts}

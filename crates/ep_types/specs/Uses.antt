@@ -1,8 +1,8 @@
 -- What stands at the tokens of atoms, groups, parameters and formulas.
-use Rattle.std.specs.Prelude.{ℕ, ◌+◌, List, [], ◌∷◌, length, map, unwrap_or}
+use Rattle.std.specs.Prelude.{ℕ, ◌+◌, List, [], ◌∷◌, length, unwrap_or}
 use Rattle.ep_types.specs.Names.{Text, declared, names_of}
 use Rattle.ep_types.specs.Atoms.{texts}
-use Rattle.ep_types.specs.Places.{Scope, with_param, with_params, Place, UsedName, NewParam, UsedObject, UsedFluent, Fact, Argument, Agent, Group, Knowledge, Uses, nothing, both, at, each}
+use Rattle.ep_types.specs.Places.{Scope, with_param, with_params, UsedName, NewParam, UsedObject, UsedFluent, Fact, Argument, Agent, Group, Knowledge, Uses, nothing, both, at, each}
 use Rattle.ep_syntax.specs.declared.tree.Name.{Name}
 use Rattle.ep_syntax.specs.declared.tree.AtomTree.{AtomTree}
 use Rattle.ep_syntax.specs.declared.tree.GroupTree.{GroupTree}

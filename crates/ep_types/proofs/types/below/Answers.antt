@@ -1,8 +1,8 @@
-use Rattle.std.proofs.Common.{◌≡◌, Bool, sym, ap, ◌∙◌, length}
-use Rattle.ep_types.specs.Names.{climbs, is_below, is_text}
-use Rattle.ep_types.specs.Links.{typings, name_at}
+use Rattle.std.proofs.Common.{sym, ap, ◌∙◌, length}
+use Rattle.ep_types.specs.Names.{is_below}
+use Rattle.ep_types.specs.Links.{typings}
 use Rattle.ep_types.proofs.Grown.{below_nowhere, below_unknown, found_at, names_typed}
-use Rattle.ep_types.specs.Names.{is_among, names_of}
+use Rattle.ep_types.specs.Names.{is_among}
 use Rattle.ep_types.proofs.types.below.Goals as goal
 
 pub returns-in-None : goal.returns-in-None

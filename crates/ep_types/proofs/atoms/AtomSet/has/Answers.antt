@@ -1,4 +1,4 @@
-use Rattle.std.proofs.Common.{ap, ◌∙◌}
+use Rattle.std.proofs.Common.{◌∙◌}
 use Rattle.ep_types.specs.Atoms.{has_atom}
 use Rattle.ep_types.proofs.AtomLemmas.{has_key}
 use Rattle.ep_types.proofs.atoms.AtomSet.has.Goals as goal

@@ -1,5 +1,4 @@
-use Rattle.std.proofs.Common.{ap, sym, ◌∙◌, slice_get, ℕ, Some}
-use Rattle.std.specs.Global.{Vec}
+use Rattle.std.proofs.Common.{ap, sym, ◌∙◌, slice_get, Some}
 use Rattle.std.specs.Option.{option_map}
 use Rattle.std.specs.Map.Iter.{deref_pair}
 use Rattle.ep_types.specs.Names.{names_of}

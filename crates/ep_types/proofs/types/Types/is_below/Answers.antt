@@ -1,6 +1,5 @@
-use Rattle.std.proofs.Common.{◌≡◌, ap, sym, subst, ◌∙◌, IsTrue, ◌↔◌, Bool}
+use Rattle.std.proofs.Common.{ap, sym, subst, ◌∙◌, IsTrue, ◌↔◌, Bool}
 use Rattle.ep_types.specs.Names.{Typings, is_below, Reaches}
-use Rattle.ep_types.specs.Links.{typings}
 use Rattle.ep_types.proofs.Reaching.{below_reaches}
 use Rattle.ep_types.proofs.types.Types.is_below.Goals as goal
 

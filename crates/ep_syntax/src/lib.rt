@@ -14,7 +14,7 @@ pub mod terminal;
 pub mod tree;
 
 pub use error::SyntaxError;
-pub use read::read_formula;
+pub use read::{read_formula, read_task};
 pub use terminal::Terminal;
 pub use tree::{
     AtomTree, BodyTree, CallTree, EventTree, FluentTree, FormulaTree, GroupTree, InitTree,

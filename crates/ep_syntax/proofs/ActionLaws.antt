@@ -34,6 +34,7 @@ use Rattle.ep_syntax.proofs.AtomLaws.{within_of, within_part, atoms_one, atom_pa
 use Rattle.ep_syntax.proofs.DeclarationLaws.{braced_of, braced_part, named_entries_part}
 use Rattle.ep_syntax.proofs.InitialLaws.{outer_one, outer_part, before, statement_part, links_of, links_part, designated_of, designated_part}
 use Rattle.ep_syntax.proofs.Layers.{some_formula}
+use Rattle.ep_syntax.proofs.Sources.{both_true}
 
 -- ---- sets and events
 
@@ -54,7 +55,7 @@ abbrev sets_of : Grammar (List SetTree)
 sets_of = braced_of (each_of sets_one)
 
 sets_part : {F : Follow} → Part sets_of F sets
-sets_part = named_entries_part set_part (λ a more f. atoms_start a.atom _ f.0)
+sets_part = named_entries_part set_part (λ a more f. (both_true _ _ f.0).0)
 
 abbrev events_one : Grammar EventTree
 events_one = record { marks = spell.event; IsFormed = IsFormedEvent; bare = bare_event }
@@ -172,7 +173,7 @@ module _ (n : ℕ) (ts : List Token) where
   events_reads d1 d2 d3 d4 =
       let some_events = some_each_part (is the.Event) events_one Any (Next the.Designated) event event_part (λ _ _ _. refl) (λ _ _ _. tt) (λ _ _. tt) (next_lacks the.Designated (is the.Event) refl) in
       made_by (record { marks = λ a _. sym (append_assoc (flat_map spell.event a.0.0) (spell.designated a.0.1) (flat_map spell.link a.1)); formed = λ _ f. (f.0.0, f.0.1, f.1); bare = λ _. refl })
-        (then (pair (some_events.reads n ts) designated_part (λ _ _ _ _. refl)) links_part) (events_back ts d1 d2 d3 d4)
+      (then (pair (some_events.reads n ts) designated_part (λ _ _ _ _. refl)) links_part) (events_back ts d1 d2 d3 d4)
 
 body_part : Part bodies_of (Next the.CloseBrace) body
 unfolding body
@@ -237,7 +238,7 @@ signature_part = record {
   reads = λ n ts. either (begins the.OpenParen ts)
       (λ e.
       subst (λ r. Reads signatures_of (Next the.OpenBrace) n ts r) (made-id (seq (params n ts) distinct))
-      (made_by (record { marks = signature_marks; formed = signature_formed; bare = λ _. refl }) (pair (params_part.reads n ts) distinct_part (λ _ _ _ _. tt)) (signature_back ts e)))
+      (made_by (record { marks = signature_marks; formed = signature_formed; bare = λ _. refl }) (then (params_part.reads n ts) distinct_part) (signature_back ts e)))
       (λ e. record { holds = record { text = refl; at = omega arith; placed = tt; formed = refl; shallow = tt; only = λ b more f s a. signature_none ts e b more f a } });
   value = ([], false);
   formed = refl;

@@ -169,7 +169,7 @@ unfolding explicit
 explicit_reads n ts e =
     let worlds = some_each_part (is the.World) worlds_one Any (Next the.Designated) world world_part (λ _ _ _. refl) (λ _ _ _. tt) (λ _ _. tt) (next_lacks the.Designated (is the.World) refl) in
     made_by (record { marks = λ a _. sym (append_assoc (flat_map spell.world a.0.0) (spell.designated a.0.1) (flat_map spell.link a.1)); formed = λ _ f. (f.0.0, f.0.1, f.1); bare = λ _. refl })
-      (then (pair (worlds.reads n ts) designated_part (λ _ _ _ _. refl)) links_part) (explicit_back ts e)
+    (then (pair (worlds.reads n ts) designated_part (λ _ _ _ _. refl)) links_part) (explicit_back ts e)
 
 -- ---- the lawful form
 

@@ -43,15 +43,23 @@ some_task = record {
   goal = tree.True 0;
 }
 
+regroup : (a b c : Mark) (ts os fs i ss g : List Mark) → a ∷ b ∷ c ∷ (ts ++ (os ++ (fs ++ (i ++ (ss ++ g))))) ≡ ((((((a ∷ b ∷ c ∷ []) ++ ts) ++ os) ++ fs) ++ i) ++ ss) ++ g
+regroup a b c ts os fs i ss g = simp append_assoc
+
 pub task_part : Part tasks Any task
 unfolding task some_task
 task_part = record {
   reads = λ n ts. made_all
-      (record { marks = λ a _. simp append_assoc; formed = λ _ f. (f.0.0.0.0.0.0.0.1, f.0.0.0.0.0.1, f.0.0.0.0.1, f.0.0.0.1, f.0.0.1, f.0.1, f.1); bare = λ _. refl })
+      (record {
+        marks = λ a _. regroup (fixed the.Task) (named a.0.0.0.0.0.0.0.1) (fixed the.Semicolon) (spell.types a.0.0.0.0.0.1) (spell.objects a.0.0.0.0.1) (spell.fluents a.0.0.0.1) (spell.init a.0.0.1)
+            (flat_map spell.schema a.0.1) (fixed the.Goal ∷ (spell.formula a.1 ++ fixed the.Semicolon ∷ []));
+        formed = λ _ f. (f.0.0.0.0.0.0.0.1, f.0.0.0.0.0.1, f.0.0.0.0.1, f.0.0.0.1, f.0.0.1, f.0.1, f.1);
+        bare = λ _. refl;
+      })
       (λ b f. record {
-      from = ((((((((0, b.name), 0), b.types), b.objects), b.fluents), b.init), b.schemas), b.goal);
-      formed = ((((((((tt, f.0), tt), f.1), f.2), f.3), f.4), f.5), f.6);
-      is = refl;
+        from = ((((((((0, b.name), 0), b.types), b.objects), b.fluents), b.init), b.schemas), b.goal);
+        formed = ((((((((tt, f.0), tt), f.1), f.2), f.3), f.4), f.5), f.6);
+        is = refl;
       })
       (pair (then (then (then (declarations_reads n ts) fluents_part) init_part) schemas_part) (statement_part the.Goal) (λ _ _ _ _. refl));
   value = some_task;

@@ -205,3 +205,8 @@ whole_outcome {A} {g} {G} {p} o goes ts =
 
 pub whole_from : {A : Type 0} (p : Reader A) (ts : List Token) (a : A) (m k : ℕ) (rest last : List Token) → p 0 ts ≡ Ok (a, m, rest) → end m rest ≡ Ok (tt, k, last) → whole p 0 ts ≡ Ok (a, k, last)
 whole_from p ts a m k rest last e f = ap (λ r. made first_of (seq r end)) e ∙ ap (λ z. made first_of (paired a z)) f
+
+pub whole_stops : {A : Type 0} (p : Reader A) (ts : List Token) (a : A) (m : ℕ) (rest : List Token) → p 0 ts ≡ Ok (a, m, rest) → (e : SyntaxError) → Stops e (end m rest) → Stops e (whole p 0 ts)
+whole_stops p ts a m rest e error.OutOfMemory s = tt
+whole_stops p ts a m rest e (error.Syntax n) s = ap (λ r. made first_of (seq r end)) e ∙ ap (λ z. made first_of (paired a z)) s
+whole_stops p ts a m rest e (error.TooDeep t) s = ap (λ r. made first_of (seq r end)) e ∙ ap (λ z. made first_of (paired a z)) s

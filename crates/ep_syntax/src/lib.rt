@@ -18,7 +18,7 @@ pub mod tree;
 
 pub use error::SyntaxError;
 pub use print::print_task;
-pub use read::read_formula;
+pub use read::{read_formula, read_task};
 pub use terminal::Terminal;
 pub use tree::{
     AtomTree, BodyTree, CallTree, EventTree, FluentTree, FormulaTree, GroupTree, InitTree,

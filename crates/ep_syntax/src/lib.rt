@@ -17,12 +17,8 @@ pub mod terminal;
 pub mod tree;
 
 pub use error::SyntaxError;
-<<<<<<< HEAD
 pub use print::print_task;
-pub use read::read_formula;
-=======
 pub use read::{read_formula, read_task};
->>>>>>> 865b08cdbe86399aafebb2ef8fd5e8554d5df7fc
 pub use terminal::Terminal;
 pub use tree::{
     AtomTree, BodyTree, CallTree, EventTree, FluentTree, FormulaTree, GroupTree, InitTree,

@@ -91,3 +91,6 @@ pub fn print_listed<T: Print>(items: &[T], printer: &mut Printer) -> Result<(), 
     print_between(items, Terminal::Comma, printer)?;
     printer.fixed(Terminal::CloseBrace)
 }
+
+#[cfg(test)]
+mod tests;

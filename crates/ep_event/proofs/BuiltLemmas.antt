@@ -112,11 +112,11 @@ are_fine p h =
       some_event = some_from_test (length p.events) (not_when (eqb (length p.events) 0) NoEvent a.0);
       few_events = omega (arith, ltb-false 16 (length p.events) (not_when (ltb 16 (length p.events)) (TooManyEvents (length p.events)) b.0));
       links = All-from_each (λ (l : EventLink). (l.from.n < length p.events) × (l.to.n < length p.events)) p.links (λ l i.
-        let both = and_true (ltb l.from.n (length p.events)) (ltb l.to.n (length p.events)) (not_false (ltb l.from.n (length p.events) && ltb l.to.n (length p.events))
-            (none_passes (λ (l : EventLink). not (ltb l.from.n (length p.events) && ltb l.to.n (length p.events))) p.links (no_place EventOutOfRange (position (λ (l : EventLink). not (ltb l.from.n (length p.events) && ltb l.to.n (length p.events))) p.links) d.0) l i)) in
-        (ltb-true l.from.n (length p.events) both.0, ltb-true l.to.n (length p.events) both.1));
+          let both = and_true (ltb l.from.n (length p.events)) (ltb l.to.n (length p.events)) (not_false (ltb l.from.n (length p.events) && ltb l.to.n (length p.events))
+          (none_passes (λ (l : EventLink). not (ltb l.from.n (length p.events) && ltb l.to.n (length p.events))) p.links (no_place EventOutOfRange (position (λ (l : EventLink). not (ltb l.from.n (length p.events) && ltb l.to.n (length p.events))) p.links) d.0) l i)) in
+          (ltb-true l.from.n (length p.events) both.0, ltb-true l.to.n (length p.events) both.1));
       designated = All-from_each (λ (x : EventId). x.n < length p.events) p.designated (λ x i. ltb-true x.n (length p.events) (not_false (ltb x.n (length p.events))
-        (none_passes (λ (x : EventId). not (ltb x.n (length p.events))) p.designated (no_place DesignatedOutOfRange (position (λ (x : EventId). not (ltb x.n (length p.events))) p.designated) e.0) x i)));
+          (none_passes (λ (x : EventId). not (ltb x.n (length p.events))) p.designated (no_place DesignatedOutOfRange (position (λ (x : EventId). not (ltb x.n (length p.events))) p.designated) e.0) x i)));
       distinct = none_twice p.events f.0;
       some_designated = some_from_test (length p.designated) (not_when (eqb (length p.designated) 0) NoDesignated f.1);
     }
@@ -136,20 +136,20 @@ built_is_action p fine =
       some_event = omega (arith, count, fine.some_event);
       few_events = omega (arith, count, fine.few_events);
       distinct = All-from_each (λ (x : Event). AreDistinct x.sets) (map event_of p.events) (λ y i.
-        let x = from_map event_of y p.events i in
-        subst (λ (y : Event). AreDistinct y.sets) (sym x.2) (are_distinct x.0.sets (at_All (λ (x : EventParts). repeated_atom x.sets ≡ None) x.0 p.events fine.distinct x.1)));
+          let x = from_map event_of y p.events i in
+          subst (λ (y : Event). AreDistinct y.sets) (sym x.2) (are_distinct x.0.sets (at_All (λ (x : EventParts). repeated_atom x.sets ≡ None) x.0 p.events fine.distinct x.1)));
       rising = all_rows (IsRising pair_cmp) (λ a. pairs_where (has_link p.links a) (length p.events)) p.agents (λ a. rising_pairs (has_link p.links a) (length p.events) (length p.events));
       within = all_rows (λ pairs. AllByRecursion (λ (q : ℕ × ℕ). (q.0 < length (map event_of p.events)) × (q.1 < length (map event_of p.events))) pairs)
           (λ a. pairs_where (has_link p.links a) (length p.events)) p.agents (λ a.
           All-from_each (λ (q : ℕ × ℕ). (q.0 < length (map event_of p.events)) × (q.1 < length (map event_of p.events))) (pairs_where (has_link p.links a) (length p.events)) (λ q i.
-            let r = from_pairs (has_link p.links a) (length p.events) (length p.events) q i in
-            (omega (arith, r.0, count), omega (arith, r.1, count))));
+          let r = from_pairs (has_link p.links a) (length p.events) (length p.events) q i in
+          (omega (arith, r.0, count), omega (arith, r.1, count))));
       designated_rising = rising_numbers (has_event p.designated) (length p.events);
       designated_within = All-from_each (λ e. e < length (map event_of p.events)) (numbers_where (has_event p.designated) (length p.events)) (λ e i.
-        omega (arith, (from_numbers (has_event p.designated) (length p.events) e i).0, count));
+          omega (arith, (from_numbers (has_event p.designated) (length p.events) e i).0, count));
       some_designated = λ none.
-        let r = first_named p.designated (length p.events) fine.some_designated fine.designated in
-        subst (IsIn r.0) none r.1;
+          let r = first_named p.designated (length p.events) fine.some_designated fine.designated in
+          subst (IsIn r.0) none r.1;
     }
 
 pairs_chosen : (links : List EventLink) (n a : ℕ) → all_pairs (linked_rows links n a) ≡ pairs_where (has_link links a) n
@@ -162,8 +162,8 @@ pub put_together : (p : ActionParts) (relations : List (List (List ℕ))) (desig
     action_of p.events relations designated ≡ built p
 put_together p relations designated e d =
     let links : map all_pairs relations ≡ table (λ a. pairs_where (has_link p.links a) (length p.events)) p.agents =
-        ap (map all_pairs) e ∙ map-table all_pairs (linked_rows p.links (length p.events)) p.agents
-        ∙ table-same (λ a. all_pairs (linked_rows p.links (length p.events) a)) (λ a. pairs_where (has_link p.links a) (length p.events)) p.agents (pairs_chosen p.links (length p.events)) in
+    ap (map all_pairs) e ∙ map-table all_pairs (linked_rows p.links (length p.events)) p.agents
+    ∙ table-same (λ a. all_pairs (linked_rows p.links (length p.events) a)) (λ a. pairs_where (has_link p.links a) (length p.events)) p.agents (pairs_chosen p.links (length p.events)) in
     rw (links, d) refl
 
 pub built_is_sound : (p : ActionParts) (relations : List (List (List ℕ))) (designated : List ℕ) → relations ≡ table (linked_rows p.links (length p.events)) p.agents → designated ≡ numbers_where (has_event p.designated) (length p.events) →

@@ -55,11 +55,11 @@ marks_add n a links l square hit from to are =
       ];
       each = λ e f h k. elim (cases_eq e l.from.n) [
         | inl s ↦ elim (cases_eq f l.to.n) [
-            | inl t ↦ rw (s, t, get_or-set_same square l.from.n row [] here, get_or-set_same (get_or square l.from.n []) l.to.n true false (omega (arith, are.widths l.from.n from)), list_any-append, hit, eq-eqb l.from.n l.from.n refl, eq-eqb l.to.n l.to.n refl)
-                (sym (or-true (has_link links a l.from.n l.to.n)))
-            | inr d ↦ rw (s, get_or-set_same square l.from.n row [] here, get_or-set_other (get_or square l.from.n []) l.to.n f true false d, list_any-append, hit, eq-eqb l.from.n l.from.n refl, ne_eqb l.to.n f (λ q. d (sym q)))
-                (are.each l.from.n f from k ∙ sym (or-false (has_link links a l.from.n f)))
-          ]
+          | inl t ↦ rw (s, t, get_or-set_same square l.from.n row [] here, get_or-set_same (get_or square l.from.n []) l.to.n true false (omega (arith, are.widths l.from.n from)), list_any-append, hit, eq-eqb l.from.n l.from.n refl, eq-eqb l.to.n l.to.n refl)
+              (sym (or-true (has_link links a l.from.n l.to.n)))
+          | inr d ↦ rw (s, get_or-set_same square l.from.n row [] here, get_or-set_other (get_or square l.from.n []) l.to.n f true false d, list_any-append, hit, eq-eqb l.from.n l.from.n refl, ne_eqb l.to.n f (λ q. d (sym q)))
+              (are.each l.from.n f from k ∙ sym (or-false (has_link links a l.from.n f)))
+        ]
         | inr d ↦ rw (get_or-set_other square l.from.n e row [] d, list_any-append, hit, ne_eqb l.from.n e (λ q. d (sym q)))
             (are.each e f h k ∙ sym (or-false (has_link links a e f)))
       ];
@@ -74,11 +74,11 @@ pub rows_are_linked : (n a : ℕ) (links : List EventLink) (square : List (List 
 rows_are_linked n a links square are =
     let long : length (map places_of square) ≡ n = length-map square places_of ∙ are.count in
     same_lists (map places_of square) (linked_rows links n a) (long ∙ sym (length-table (λ e. numbers_where (has_link links a e) n) n)) (λ e d l.
-      let h : e < n = omega (arith, long, l) in
-      get_or-map places_of square e [] d (omega (arith, h, are.count))
-      ∙ numbers_where-same (λ f. get_or (get_or square e []) f false) (has_link links a e) (length (get_or square e [])) (λ f m. are.each e f h (omega (arith, m, are.widths e h)))
-      ∙ ap (numbers_where (has_link links a e)) (are.widths e h)
-      ∙ sym (get_or-table (λ e. numbers_where (has_link links a e) n) n e d h))
+    let h : e < n = omega (arith, long, l) in
+    get_or-map places_of square e [] d (omega (arith, h, are.count))
+    ∙ numbers_where-same (λ f. get_or (get_or square e []) f false) (has_link links a e) (length (get_or square e [])) (λ f m. are.each e f h (omega (arith, m, are.widths e h)))
+    ∙ ap (numbers_where (has_link links a e)) (are.widths e h)
+    ∙ sym (get_or-table (λ e. numbers_where (has_link links a e) n) n e d h))
 
 abbrev pub no_link : EventLink
 no_link = record { agent = record { n = 0 }; from = record { n = 0 }; to = record { n = 0 } }

@@ -57,16 +57,17 @@ atoms_of sets = map (λ (s : Assign). s.atom.n) sets
 
 differ : (sets : List Assign) → ((i : ℕ) → i < length sets → is_repeated sets i ≡ false) → AreDistinct (map set_of sets)
 differ [] h = tt
-differ (s ∷ sets) h =
-    (All-from_each (λ (y : ℕ × Node). s.atom.n ≢ y.0) (map set_of sets) (λ y i. λ same.
+differ (s ∷ sets) h = (
+  All-from_each (λ (y : ℕ × Node). s.atom.n ≢ y.0) (map set_of sets) (λ y i. λ same.
       let t = from_map set_of y sets i in
       let j = place_of t.0.atom.n (atoms_of sets) 0 (IsIn-map (λ (x : Assign). x.atom.n) t.0 sets t.1) in
       let equal : s.atom.n ≡ get_or (atoms_of sets) j.0 0 = same ∙ ap (λ (q : ℕ × Node). q.0) t.2 ∙ sym j.2 in
       let fails = left_false (s.atom.n == get_or (atoms_of sets) j.0 0) (list_any (λ (x : Assign). x.atom.n == get_or (atoms_of sets) j.0 0) (take j.0 sets))
-          (h (suc j.0) (omega (arith, j.1, length-map sets (λ (x : Assign). x.atom.n)))) in
+      (h (suc j.0) (omega (arith, j.1, length-map sets (λ (x : Assign). x.atom.n)))) in
       let passes : (s.atom.n == get_or (atoms_of sets) j.0 0) ≡ true = subst (λ k. (s.atom.n == k) ≡ true) equal (test_itself s.atom.n) in
       cc (fails, passes)),
-    differ sets (λ i l. right_false (s.atom.n == get_or (atoms_of sets) i 0) (list_any (λ (x : Assign). x.atom.n == get_or (atoms_of sets) i 0) (take i sets)) (h (suc i) (omega (arith, l)))))
+  differ sets (λ i l. right_false (s.atom.n == get_or (atoms_of sets) i 0) (list_any (λ (x : Assign). x.atom.n == get_or (atoms_of sets) i 0) (take i sets)) (h (suc i) (omega (arith, l)))),
+)
 
 -- where no atom is repeated, no two assignments are to one atom
 pub are_distinct : (sets : List Assign) → repeated_atom sets ≡ None → AreDistinct (map set_of sets)

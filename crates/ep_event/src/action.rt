@@ -257,7 +257,11 @@ fn negation(alloc: Global, f: &Formula) -> Result<Formula, OutOfMemory>
     }
 }
 
-fn one_event(alloc: Global, pre: Formula, sets: List<Assign>) -> Result<List<EventParts>, OutOfMemory>
+fn one_event(
+    alloc: Global,
+    pre: Formula,
+    sets: List<Assign>,
+) -> Result<List<EventParts>, OutOfMemory>
     ensures { IfOk result (λ events. events ≡ record { pre = pre; sets = sets } ∷ []) }
 {
     let mut events = List::new(alloc);
@@ -265,7 +269,11 @@ fn one_event(alloc: Global, pre: Formula, sets: List<Assign>) -> Result<List<Eve
     Ok(events)
 }
 
-fn two_events(alloc: Global, first: Formula, second: Formula) -> Result<List<EventParts>, OutOfMemory>
+fn two_events(
+    alloc: Global,
+    first: Formula,
+    second: Formula,
+) -> Result<List<EventParts>, OutOfMemory>
     ensures { IfOk result (λ events. events ≡ record { pre = first; sets = [] } ∷ record { pre = second; sets = [] } ∷ []) }
 {
     let mut events = one_event(alloc, first, List::new(alloc))?;

@@ -158,7 +158,9 @@ pub fn check(parts: &ActionParts) -> Result<(), ActionError>
         return Err(ActionError::EventOutOfRange { link: link as u32 });
     }
     if let Some(place) = first_designated(designated, count) {
-        return Err(ActionError::DesignatedOutOfRange { place: place as u32 });
+        return Err(ActionError::DesignatedOutOfRange {
+            place: place as u32,
+        });
     }
     check_assignments(events)?;
     if designated.is_empty() {

@@ -72,14 +72,14 @@ pub fn loops(alloc: Global, agents: u32) -> Result<List<List<Numbers>>, OutOfMem
     Ok(relations)
 }
 
-fn row_pair(
-    alloc: Global,
-    tells_apart: bool,
-    seen: &[u32],
-) -> Result<List<Numbers>, OutOfMemory>
+fn row_pair(alloc: Global, tells_apart: bool, seen: &[u32]) -> Result<List<Numbers>, OutOfMemory>
     ensures { IfOk result (λ rows. rows ≡ two_rows tells_apart seen.now) }
 {
-    let (first, second): (&[u32], &[u32]) = if tells_apart { (&[0], &[1]) } else { (seen, seen) };
+    let (first, second): (&[u32], &[u32]) = if tells_apart {
+        (&[0], &[1])
+    } else {
+        (seen, seen)
+    };
     let mut rows = row(alloc, first)?;
     rows.push(Numbers::from_slice(alloc, second)?)?;
     Ok(rows)

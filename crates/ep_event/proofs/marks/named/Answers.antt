@@ -9,5 +9,5 @@ pub returns : goal.returns
 returns c =
     let row = c.in_ok-row.row in
     IfOk-weaker c.marked.result _ _ (λ n e. e
-      ∙ ap (numbers_where (λ f. slice_index_or row f false)) c.in_ok-row.ensures.long
-      ∙ numbers_where-same (λ f. slice_index_or row f false) (has_event c.args.ids.now) c.args.events (λ f l. c.in_ok-row.ensures.each f l)) c.marked.ensures
+    ∙ ap (numbers_where (λ f. slice_index_or row f false)) c.in_ok-row.ensures.long
+    ∙ numbers_where-same (λ f. slice_index_or row f false) (has_event c.args.ids.now) c.args.events (λ f l. c.in_ok-row.ensures.each f l)) c.marked.ensures

@@ -13,26 +13,72 @@ returns-in-Some c =
 
 pub returns-in-Some-first_event : goal.returns-in-Some-first_event
 returns-in-Some-first_event c =
-    rw (← c.as_slice-events.ensures, ← c.as_slice-links.ensures, ← c.as_slice-designated.ensures, ← c.if-is_empty.ensures, few (length c.as_slice-events.result.now) c.if-events-gt-MOST_EVENTS.false,
-      ← c.in_default.ensures, ← c.in-Some-first_event.ensures) refl
+    rw (
+      ← c.as_slice-events.ensures,
+      ← c.as_slice-links.ensures,
+      ← c.as_slice-designated.ensures,
+      ← c.if-is_empty.ensures,
+      few (length c.as_slice-events.result.now) c.if-events-gt-MOST_EVENTS.false,
+      ← c.in_default.ensures,
+      ← c.in-Some-first_event.ensures,
+    ) refl
 
 pub returns-in-Some-first_designated : goal.returns-in-Some-first_designated
 returns-in-Some-first_designated c =
-    rw (← c.as_slice-events.ensures, ← c.as_slice-links.ensures, ← c.as_slice-designated.ensures, ← c.if-is_empty.ensures, few (length c.as_slice-events.result.now) c.if-events-gt-MOST_EVENTS.false,
-      ← c.in_default.ensures, ← c.in_default-first_event.ensures, ← c.in-Some-first_designated.ensures) refl
+    rw (
+      ← c.as_slice-events.ensures,
+      ← c.as_slice-links.ensures,
+      ← c.as_slice-designated.ensures,
+      ← c.if-is_empty.ensures,
+      few (length c.as_slice-events.result.now) c.if-events-gt-MOST_EVENTS.false,
+      ← c.in_default.ensures,
+      ← c.in_default-first_event.ensures,
+      ← c.in-Some-first_designated.ensures,
+    ) refl
 
 pub returns-in_err-check_assignments : goal.returns-in_err-check_assignments
 returns-in_err-check_assignments c =
     let p = err_from_is_err_and c.from_residual.result c.from_residual.ensures.1 in
-    rw (p.1, p.2, ← c.as_slice-events.ensures, ← c.as_slice-links.ensures, ← c.as_slice-designated.ensures, ← c.if-is_empty.ensures, few (length c.as_slice-events.result.now) c.if-events-gt-MOST_EVENTS.false,
-      ← c.in_default.ensures, ← c.in_default-first_event.ensures, ← c.in_default-first_designated.ensures, c.in_err-check_assignments.ensures) refl
+    rw (
+      p.1,
+      p.2,
+      ← c.as_slice-events.ensures,
+      ← c.as_slice-links.ensures,
+      ← c.as_slice-designated.ensures,
+      ← c.if-is_empty.ensures,
+      few (length c.as_slice-events.result.now) c.if-events-gt-MOST_EVENTS.false,
+      ← c.in_default.ensures,
+      ← c.in_default-first_event.ensures,
+      ← c.in_default-first_designated.ensures,
+      c.in_err-check_assignments.ensures,
+    ) refl
 
 pub returns-then-is_empty-2 : goal.returns-then-is_empty-2
 returns-then-is_empty-2 c =
-    rw (← c.as_slice-events.ensures, ← c.as_slice-links.ensures, ← c.as_slice-designated.ensures, ← c.if-is_empty.ensures, few (length c.as_slice-events.result.now) c.if-events-gt-MOST_EVENTS.false,
-      ← c.in_default.ensures, ← c.in_default-first_event.ensures, ← c.in_default-first_designated.ensures, c.in_ok-check_assignments.ensures, ← c.if-is_empty-2.ensures) refl
+    rw (
+      ← c.as_slice-events.ensures,
+      ← c.as_slice-links.ensures,
+      ← c.as_slice-designated.ensures,
+      ← c.if-is_empty.ensures,
+      few (length c.as_slice-events.result.now) c.if-events-gt-MOST_EVENTS.false,
+      ← c.in_default.ensures,
+      ← c.in_default-first_event.ensures,
+      ← c.in_default-first_designated.ensures,
+      c.in_ok-check_assignments.ensures,
+      ← c.if-is_empty-2.ensures,
+    ) refl
 
 pub returns : goal.returns
 returns c =
-    rw (← c.as_slice-events.ensures, ← c.as_slice-links.ensures, ← c.as_slice-designated.ensures, ← c.if-is_empty.ensures, few (length c.as_slice-events.result.now) c.if-events-gt-MOST_EVENTS.false,
-      ← c.in_default.ensures, ← c.in_default-first_event.ensures, ← c.in_default-first_designated.ensures, c.in_ok-check_assignments.ensures, ← c.if-is_empty-2.ensures) refl
+    rw (
+      ← c.as_slice-events.ensures,
+      ← c.as_slice-links.ensures,
+      ← c.as_slice-designated.ensures,
+      ← c.if-is_empty.ensures,
+      few (length c.as_slice-events.result.now) c.if-events-gt-MOST_EVENTS.false,
+      ← c.in_default.ensures,
+      ← c.in_default-first_event.ensures,
+      ← c.in_default-first_designated.ensures,
+      c.in_ok-check_assignments.ensures,
+      ← c.if-is_empty-2.ensures,
+    ) refl

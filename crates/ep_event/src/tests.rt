@@ -1,5 +1,3 @@
-ghost use Rattle.std.specs.Prelude.{◌≡◌, ◌<◌, ◌≤◌, length};
-
 use crate::{Action, ActionError, ActionParts, Assign, EventLink, EventParts};
 use ep_logic::{AgentId, Agents, AtomId, EventId, Formula, List, Node, OutOfMemory};
 use std::alloc::Global;
@@ -17,42 +15,55 @@ fn sets(alloc: Global, atoms: &[u32]) -> Result<List<Assign>, OutOfMemory> {
     Ok(sets)
 }
 
-// Builds an action whose events need nothing and assign to these atoms.
-fn build(
-    rt: &impl Abort,
-    alloc: Global,
-    events: &[&[u32]],
-    links: &[(u32, u32, u32)],
-    designated: &[u32],
-) -> Result<Action, ActionError> {
-    let mut parts = List::new(alloc);
-    for atoms in events {
-        parts.push(EventParts {
+// Events that need nothing and assign to these atoms.
+fn events(alloc: Global, atoms: &[&[u32]]) -> Result<List<EventParts>, OutOfMemory> {
+    let mut events = List::new(alloc);
+    for atoms in atoms {
+        events.push(EventParts {
             pre: Formula::truth(true),
             sets: sets(alloc, atoms)?,
         })?;
     }
-    let mut pairs = List::new(alloc);
-    for (agent, from, to) in links {
-        pairs.push(EventLink {
+    Ok(events)
+}
+
+fn links(alloc: Global, triples: &[(u32, u32, u32)]) -> Result<List<EventLink>, OutOfMemory> {
+    let mut links = List::new(alloc);
+    for (agent, from, to) in triples {
+        links.push(EventLink {
             agent: AgentId { n: *agent },
             from: EventId { n: *from },
             to: EventId { n: *to },
         })?;
     }
+    Ok(links)
+}
+
+fn ids(alloc: Global, numbers: &[u32]) -> Result<List<EventId>, OutOfMemory> {
     let mut ids = List::new(alloc);
-    for n in designated {
+    for n in numbers {
         ids.push(EventId { n: *n })?;
     }
-    assert!(rt;
-        parts.as_slice().len() < 99 && pairs.as_slice().len() < 99 && ids.as_slice().len() < 99
-    );
+    Ok(ids)
+}
+
+// An action of two agents.
+fn build(
+    rt: &impl Abort,
+    alloc: Global,
+    atoms: &[&[u32]],
+    triples: &[(u32, u32, u32)],
+    designated: &[u32],
+) -> Result<Action, ActionError> {
     let parts = ActionParts {
         agents: 2,
-        events: parts,
-        links: pairs,
-        designated: ids,
+        events: events(alloc, atoms)?,
+        links: links(alloc, triples)?,
+        designated: ids(alloc, designated)?,
     };
+    assert!(rt; parts.events.as_slice().len() < 99);
+    assert!(rt; parts.links.as_slice().len() < 99);
+    assert!(rt; parts.designated.as_slice().len() < 99);
     Action::build(alloc, parts)
 }
 
@@ -60,28 +71,30 @@ fn build(
 fn refused(
     rt: &impl Abort,
     alloc: Global,
-    events: &[&[u32]],
-    links: &[(u32, u32, u32)],
+    atoms: &[&[u32]],
+    triples: &[(u32, u32, u32)],
     designated: &[u32],
     refusal: ActionError,
 ) {
-    assert_eq!(rt;
-        build(rt, alloc, events, links, designated).err(),
-        Some(refusal)
-    );
+    let answer = build(rt, alloc, atoms, triples, designated);
+    assert_eq!(rt; answer.err(), Some(refusal));
 }
 
 #[test]
-fn refusals(rt: HostRuntime) {
-    let alloc = rt.alloc();
+fn refused_events(rt: HostRuntime) {
     let no: &[u32] = &[];
-    refused(&rt, alloc, &[], &[(9, 9, 9)], no, ActionError::NoEvent);
+    refused(&rt, rt.alloc(), &[], &[(9, 9, 9)], no, ActionError::NoEvent);
     let many = ActionError::TooManyEvents { events: 17 };
-    refused(&rt, alloc, &[no; 17], &[(9, 9, 9)], no, many);
+    refused(&rt, rt.alloc(), &[no; 17], &[(9, 9, 9)], no, many);
+}
+
+#[test]
+fn refused_links(rt: HostRuntime) {
+    let no: &[u32] = &[];
     let agent = ActionError::AgentOutOfRange { link: 2 };
     refused(
         &rt,
-        alloc,
+        rt.alloc(),
         &[no],
         &[(1, 0, 0), (1, 0, 7), (2, 0, 0)],
         no,
@@ -90,65 +103,57 @@ fn refusals(rt: HostRuntime) {
     let event = ActionError::EventOutOfRange { link: 1 };
     refused(
         &rt,
-        alloc,
-        &[no; 2],
-        &[(1, 0, 1), (0, 2, 0), (0, 0, 9)],
+        rt.alloc(),
+        &[no],
+        &[(1, 0, 0), (0, 1, 0), (0, 0, 9)],
         &[5],
         event,
     );
+}
+
+#[test]
+fn refused_places(rt: HostRuntime) {
     let place = ActionError::DesignatedOutOfRange { place: 1 };
-    refused(&rt, alloc, &[&[7, 7]], &[], &[0, 1], place);
+    refused(&rt, rt.alloc(), &[&[7, 7]], &[], &[0, 1], place);
+}
+
+#[test]
+fn refused_assignments(rt: HostRuntime) {
     let twice = ActionError::AtomTwice { event: 1, atom: 4 };
-    refused(&rt, alloc, &[&[1, 2], &[3, 4, 5, 4, 3]], &[], no, twice);
     refused(
         &rt,
-        alloc,
+        rt.alloc(),
+        &[&[1, 2], &[3, 4, 5, 4, 3]],
+        &[],
+        &[],
+        twice,
+    );
+    refused(
+        &rt,
+        rt.alloc(),
         &[&[1, 2], &[1]],
         &[],
-        no,
+        &[],
         ActionError::NoDesignated,
     );
 }
 
-// The links of all agents, as the agent and the two events.
-fn links_of(alloc: Global, action: &Action) -> Result<Vec<(u32, u32, u32)>, OutOfMemory> {
-    let mut links = Vec::new(alloc);
-    for a in 0..action.agents() {
-        for e in 0..action.events() {
-            for f in action.targets(AgentId { n: a }, EventId { n: e }) {
-                links.push((a, e, *f))?;
-            }
+// One agent's links from one event.
+fn add_links(
+    action: &Action,
+    a: u32,
+    e: u32,
+    links: &mut Vec<(u32, u32, u32)>,
+) -> Result<(), OutOfMemory> {
+    if a < action.agents() && e < action.events() {
+        for f in action.targets(AgentId { n: a }, EventId { n: e }) {
+            links.push((a, e, *f))?;
         }
     }
-    Ok(links)
-}
-
-#[test]
-fn repeats_count_once(rt: HostRuntime) -> Result<(), Fail> {
-    let alloc = rt.alloc();
-    let links = [(1, 2, 1), (0, 0, 2), (0, 0, 1), (1, 2, 1), (0, 0, 2)];
-    let action = build(&rt, alloc, &[&[4], &[], &[5]], &links, &[2, 0, 2])?;
-    assert_eq!(rt;
-        links_of(alloc, &action)?.as_slice(),
-        [(0, 0, 1), (0, 0, 2), (1, 2, 1)].as_slice()
-    );
-    assert_eq!(rt; action.designated(), [0, 2].as_slice());
-    let nothing: &[u32] = &[];
-    let most = build(&rt, alloc, &[nothing; 16], &[(0, 15, 15)], &[15])?;
-    assert_eq!(rt; most.events(), 16);
-    assert_eq!(rt;
-        links_of(alloc, &most)?.as_slice(),
-        [(0, 15, 15)].as_slice()
-    );
-    let copy = action.copy(alloc)?;
-    assert_eq!(rt;
-        format!(in alloc; "{copy:?}")?,
-        format!(in alloc; "{action:?}")?
-    );
     Ok(())
 }
 
-// Asserts the links and the designated events, and that event 0 needs atom 3.
+// Asserts which links and designated events the action has.
 fn shows(
     rt: &impl Abort,
     alloc: Global,
@@ -156,25 +161,65 @@ fn shows(
     links: &[(u32, u32, u32)],
     designated: &[u32],
 ) -> Result<(), OutOfMemory> {
-    assert_eq!(rt; links_of(alloc, action)?.as_slice(), links);
+    let mut found = Vec::new(alloc);
+    for place in 0..8 * 16 {
+        add_links(action, place / 16, place % 16, &mut found)?;
+    }
+    assert_eq!(rt; found.as_slice(), links);
     assert_eq!(rt; action.designated(), designated);
-    assert!(rt; action.events() > 0);
-    let pre = action.pre(EventId { n: 0 });
-    assert!(rt; matches!(pre.node(), Node::Atom(AtomId { n: 3 })));
     Ok(())
 }
 
 #[test]
-fn the_four_kinds(rt: HostRuntime) -> Result<(), Fail> {
-    let alloc = rt.alloc();
-    let group = Agents::none().with(AgentId { n: 0 }).with(AgentId { n: 2 });
-    assert!(rt; !group.is_empty() && group.is_within(3));
-    let heads = AtomId { n: 3 };
-    let said = [(0, 0, 0), (1, 0, 0), (2, 0, 0)];
-    let announce = Action::announce(alloc, 3, Formula::atom(heads))?;
-    shows(&rt, alloc, &announce, &said, &[0])?;
-    let assign = Action::assign(alloc, 3, Formula::atom(heads), sets(alloc, &[8, 9])?)?;
-    shows(&rt, alloc, &assign, &said, &[0])?;
+fn repeats_count_once(rt: HostRuntime) -> Result<(), Fail> {
+    let repeats = [(1, 2, 1), (0, 0, 2), (0, 0, 1), (1, 2, 1), (0, 0, 2)];
+    let action = build(&rt, rt.alloc(), &[&[4], &[], &[5]], &repeats, &[2, 0, 2])?;
+    let copy = action.copy(rt.alloc())?;
+    shows(
+        &rt,
+        rt.alloc(),
+        &copy,
+        &[(0, 0, 1), (0, 0, 2), (1, 2, 1)],
+        &[0, 2],
+    )?;
+    Ok(())
+}
+
+#[test]
+fn sixteen_events(rt: HostRuntime) -> Result<(), Fail> {
+    let no: &[u32] = &[];
+    let action = build(&rt, rt.alloc(), &[no; 16], &[(0, 15, 15)], &[15])?;
+    shows(&rt, rt.alloc(), &action, &[(0, 15, 15)], &[15])?;
+    Ok(())
+}
+
+fn heads() -> Formula {
+    Formula::atom(AtomId { n: 3 })
+}
+
+// The agents 0 and 2.
+fn group() -> Agents {
+    Agents::none().with(AgentId { n: 0 }).with(AgentId { n: 2 })
+}
+
+#[test]
+fn announcement(rt: HostRuntime) -> Result<(), Fail> {
+    let action = Action::announce(rt.alloc(), 3, heads())?;
+    shows(
+        &rt,
+        rt.alloc(),
+        &action,
+        &[(0, 0, 0), (1, 0, 0), (2, 0, 0)],
+        &[0],
+    )?;
+    Ok(())
+}
+
+#[test]
+fn private_message(rt: HostRuntime) -> Result<(), Fail> {
+    let members = group();
+    assert!(rt; !members.is_empty() && members.is_within(3));
+    let action = Action::private(rt.alloc(), 3, heads(), members)?;
     let told = [
         (0, 0, 0),
         (0, 1, 1),
@@ -183,12 +228,17 @@ fn the_four_kinds(rt: HostRuntime) -> Result<(), Fail> {
         (2, 0, 0),
         (2, 1, 1),
     ];
-    let private = Action::private(alloc, 3, Formula::atom(heads), group)?;
-    shows(&rt, alloc, &private, &told, &[0])?;
-    let formula = Formula::atom(heads);
+    shows(&rt, rt.alloc(), &action, &told, &[0])?;
+    Ok(())
+}
+
+#[test]
+fn sensing(rt: HostRuntime) -> Result<(), Fail> {
+    let (members, formula) = (group(), heads());
+    assert!(rt; !members.is_empty() && members.is_within(3));
     assert!(rt; formula.depth() < 128 && formula.nodes() < 131_072);
-    let sense = Action::sense(alloc, 3, formula, group)?;
-    let one = [
+    let action = Action::sense(rt.alloc(), 3, formula, members)?;
+    let seen = [
         (0, 0, 0),
         (0, 1, 1),
         (1, 0, 0),
@@ -198,41 +248,40 @@ fn the_four_kinds(rt: HostRuntime) -> Result<(), Fail> {
         (2, 0, 0),
         (2, 1, 1),
     ];
-    shows(&rt, alloc, &sense, &one, &[0, 1])?;
+    shows(&rt, rt.alloc(), &action, &seen, &[0, 1])?;
     Ok(())
 }
 
 #[test]
-fn events_of_kinds(rt: HostRuntime) -> Result<(), Fail> {
-    let alloc = rt.alloc();
-    let (tell, skip) = (EventId { n: 0 }, EventId { n: 1 });
-    let (ann, bob) = (AgentId { n: 0 }, AgentId { n: 1 });
-    let action = Action::private(alloc, 2, Formula::truth(false), Agents::first(1))?;
-    assert!(rt; matches!(action.pre(tell).node(), Node::False));
-    assert!(rt; matches!(action.pre(skip).node(), Node::True));
-    assert!(rt; action.linked(ann, tell, tell) && !action.linked(bob, tell, tell));
-    assert!(rt; action.is_designated(tell) && !action.is_designated(skip));
-    let no = Action::sense(alloc, 1, Formula::truth(false), Agents::first(1))?;
-    assert!(rt; matches!(no.pre(skip).node(), Node::Not(_)));
-    let twice = Action::assign(alloc, 1, Formula::truth(true), sets(alloc, &[6, 7, 7])?);
+fn assignment(rt: HostRuntime) -> Result<(), Fail> {
+    let action = Action::assign(rt.alloc(), 3, heads(), sets(rt.alloc(), &[8, 9])?)?;
+    shows(
+        &rt,
+        rt.alloc(),
+        &action,
+        &[(0, 0, 0), (1, 0, 0), (2, 0, 0)],
+        &[0],
+    )?;
+    let twice = Action::assign(rt.alloc(), 3, heads(), sets(rt.alloc(), &[6, 7, 7])?);
     assert_eq!(rt;
         twice.err(),
         Some(ActionError::AtomTwice { event: 0, atom: 7 })
     );
-    let once = Action::assign(alloc, 1, Formula::truth(true), sets(alloc, &[6, 7])?)?;
-    let atoms: Vec<u32> = once
-        .sets(tell)
-        .as_slice()
-        .iter()
-        .map(|set| set.atom.n)
-        .collect(alloc)?;
-    assert_eq!(rt; atoms.as_slice(), [6, 7].as_slice());
+    Ok(())
+}
+
+#[test]
+fn accessors(rt: HostRuntime) -> Result<(), Fail> {
+    let (ann, act) = (AgentId { n: 0 }, EventId { n: 0 });
+    let action = Action::assign(rt.alloc(), 1, heads(), sets(rt.alloc(), &[8])?)?;
+    assert!(rt; action.linked(ann, act, act) && action.is_designated(act));
+    assert!(rt; matches!(action.pre(act).node(), Node::Atom(AtomId { n: 3 })));
+    assert_eq!(rt; action.sets(act).as_slice().len(), 1);
     Ok(())
 }
 
 #[test]
 fn texts_of_refusals(rt: HostRuntime) -> Result<(), Fail> {
-    let alloc = rt.alloc();
     for (refusal, text) in [
         (ActionError::NoEvent, "no event"),
         (ActionError::TooManyEvents { events: 17 }, "17 events"),
@@ -255,7 +304,7 @@ fn texts_of_refusals(rt: HostRuntime) -> Result<(), Fail> {
         (ActionError::NoDesignated, "no designated event"),
         (ActionError::OutOfMemory, "out of memory"),
     ] {
-        assert_eq!(rt; format!(in alloc; "{refusal}")?.as_str(), text);
+        assert_eq!(rt; format!(in rt.alloc(); "{refusal}")?.as_str(), text);
     }
     Ok(())
 }

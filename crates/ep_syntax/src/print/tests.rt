@@ -50,7 +50,7 @@ const TASKS: [&str; 6] = [
         init { world o { has(ann) } designated { o } } \
         action swap(a : agent, b : agent) distinct { assign when true { has(a) := has(b); has(b) := has(a); } } \
         goal has(bob);",
-    "task all; objects { ann : agent; } fluents { p; q; } \
+    "task mixed; objects { ann : agent; } fluents { p; q; } \
         init { vary { } facts { p } law ((p) or q or false); designated p; } \
         goal forall (a : agent) exists (b : agent, c : agent) ((a = b) and common { } p);",
 ];

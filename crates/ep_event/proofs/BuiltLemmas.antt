@@ -1,6 +1,6 @@
 -- What no refusal says of parts, and the action that they give.
-use Rattle.std.proofs.Common.{◌≡◌, ◌≢◌, ℕ, zero, suc, ◌<◌, ◌≤◌, Bool, true, false, not, cond, ◌&&◌, ◌==◌, nat_lt, List, [], ◌∷◌, map, length, get_or, eqb, ltb, refl, sym, ◌∙◌, ap, subst, arith, Option, Some, None, position, option_map, option_and_then, is_some, IsTrue, inl}
-use Rattle.std.proofs.lemmas.Bool.{ltb-false, ltb-true, eqb-true}
+use Rattle.std.proofs.Common.{◌≡◌, ℕ, zero, suc, ◌<◌, ◌≤◌, Bool, true, false, not, cond, ◌&&◌, ◌==◌, List, [], ◌∷◌, map, length, get_or, eqb, ltb, refl, sym, ◌∙◌, ap, subst, arith, Option, Some, None, position, option_map, option_and_then, is_some, inl}
+use Rattle.std.proofs.lemmas.Bool.{ltb-false, ltb-true}
 use Rattle.std.proofs.lemmas.Option.{none-some}
 use Rattle.std.proofs.lemmas.List.{length-map, get_or-map}
 use Rattle.std.proofs.lemmas.List.Sums.{fails_before_first}
@@ -9,13 +9,12 @@ use Rattle.std.specs.Option.{option_or}
 use Rattle.std.specs.List.{position_or_len, AllByRecursion}
 use Rattle.ep_logic.specs.declared.formula.Node.TheVariants.{True}
 use Rattle.ep_logic.specs.declared.ids.EventId.{EventId}
-use Rattle.ep_event.specs.declared.parts.Assign.{Assign}
 use Rattle.ep_event.specs.declared.parts.EventParts.{EventParts}
 use Rattle.ep_event.specs.declared.parts.EventLink.{EventLink}
 use Rattle.ep_event.specs.declared.parts.ActionParts.{ActionParts}
 use Rattle.ep_event.specs.declared.refusal.ActionError.{ActionError}
 use Rattle.ep_event.specs.declared.refusal.ActionError.TheVariants.{NoEvent, TooManyEvents, AgentOutOfRange, EventOutOfRange, DesignatedOutOfRange, AtomTwice, NoDesignated}
-use Rattle.ep_event.specs.Built.{set_of, event_of, has_link, has_event, built}
+use Rattle.ep_event.specs.Built.{event_of, has_link, has_event, built}
 use Rattle.ep_event.specs.Refusals.{refusal_of, when, atom_twice, repeated_atom, sets_at}
 use Rattle.ep_event.specs.Relations.{action_of, all_pairs, row_pairs, linked_rows, IsSound}
 use Rattle.ep_event.proofs.RepeatLemmas.{are_distinct}
@@ -23,7 +22,7 @@ use Rattle.ep_event.proofs.RowLemmas.{row_pairs-chosen, map-table, table-same}
 use Rattle.ep_theory.specs.Rising.{IsIn, IsRising}
 use Rattle.ep_theory.specs.Numbers.{numbers_where, pairs_where, table}
 use Rattle.ep_theory.specs.Kripke.{pair_cmp}
-use Rattle.ep_theory.specs.Events.{Event, EventModel, IsAction, AreDistinct}
+use Rattle.ep_theory.specs.Events.{Event, IsAction, AreDistinct}
 use Rattle.ep_theory.proofs.Lists.{from_map, at_All, All-from_each, test_itself}
 use Rattle.ep_theory.proofs.Filters.{to_any}
 use Rattle.ep_theory.proofs.NumbersLemmas.{length-table, get_or-table, from_table, rising_numbers, rising_pairs, in_numbers, from_numbers, from_pairs, place_of}

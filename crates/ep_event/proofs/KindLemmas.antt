@@ -1,5 +1,5 @@
 -- The four named kinds, as they are put together.
-use Rattle.std.proofs.Common.{◌≡◌, ℕ, zero, suc, ◌≤◌, ◌<◌, Bool, true, false, cond, List, [], ◌∷◌, map, length, refl, sym, ◌∙◌, ap, subst, arith, ◌↔◌, IsTrue, None}
+use Rattle.std.proofs.Common.{◌≡◌, ℕ, ◌≤◌, Bool, true, false, cond, List, [], ◌∷◌, map, length, refl, sym, ◌∙◌, ap, subst, arith, ◌↔◌, IsTrue, None}
 use Rattle.std.specs.List.{AllByRecursion}
 use Rattle.ep_logic.specs.AgentSets.{Has}
 use Rattle.ep_logic.specs.declared.formula.Node.{Node}
@@ -13,7 +13,7 @@ use Rattle.ep_event.proofs.RepeatLemmas.{are_distinct}
 use Rattle.ep_event.proofs.RowLemmas.{map-table, table-same}
 use Rattle.ep_theory.specs.Numbers.{table}
 use Rattle.ep_theory.specs.Events.{EventModel, IsAction}
-use Rattle.ep_theory.specs.FourActions.{announce, private, sense, assign, is_member}
+use Rattle.ep_theory.specs.FourActions.{private, sense, assign, is_member}
 use Rattle.ep_theory.proofs.Lists.{All-from_each}
 use Rattle.ep_theory.proofs.NumbersLemmas.{length-table, from_table}
 use Rattle.ep_theory.proofs.FourLemmas.{assign_is, private_is, sense_is, member_has}

@@ -1,8 +1,8 @@
 -- The first place whose atom stands earlier too.
-use Rattle.std.proofs.Common.{◌≡◌, ◌≢◌, ℕ, zero, suc, ◌+◌, ◌<◌, Bool, true, false, cond, ◌||◌, ◌==◌, List, [], ◌∷◌, ◌++◌, map, length, take, get_or, slice_get, Option, Some, None, option_map, IsTrue, refl, sym, ◌∙◌, ap, subst, arith, ⊎_elim, add-one}
+use Rattle.std.proofs.Common.{◌≡◌, ◌≢◌, ℕ, zero, suc, ◌+◌, ◌<◌, Bool, true, false, cond, ◌||◌, ◌==◌, List, [], ◌∷◌, ◌++◌, map, length, take, get_or, slice_get, Some, None, option_map, IsTrue, refl, sym, ◌∙◌, ap, subst, arith, ⊎_elim, add-one}
 use Rattle.std.proofs.lemmas.Option.{none-some}
 use Rattle.std.proofs.lemmas.List.{length-map, get_or-map}
-use Rattle.std.specs.List.{AllByRecursion, list_any}
+use Rattle.std.specs.List.{list_any}
 use Rattle.ep_logic.specs.declared.formula.Node.{Node}
 use Rattle.ep_event.specs.declared.parts.Assign.{Assign}
 use Rattle.ep_event.specs.Built.{set_of}

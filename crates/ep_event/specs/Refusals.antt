@@ -2,7 +2,6 @@
 use Rattle.std.specs.Prelude.{◌≡◌, ℕ, Bool, true, false, not, ◌&&◌, ◌==◌, nat_lt, is_some, List, length, map, take, position, slice_get, slice_index_or, Option, Some, None, option_map, option_and_then, Result, Err, MatchOption, MatchResult, []}
 use Rattle.std.specs.Option.{option_or}
 use Rattle.std.specs.List.{list_any}
-use Rattle.ep_logic.specs.declared.ids.AtomId.{AtomId}
 use Rattle.ep_event.specs.declared.parts.Assign.{Assign}
 use Rattle.ep_event.specs.declared.parts.EventParts.{EventParts}
 use Rattle.ep_event.specs.declared.parts.ActionParts.{ActionParts}

@@ -1,7 +1,6 @@
-use Rattle.std.proofs.Common.{◌≡◌, ◌<◌, sym, ap, take, get_or, length, arith, eq-eqb}
+use Rattle.std.proofs.Common.{◌<◌, take, get_or, length, arith, eq-eqb}
 use Rattle.std.proofs.lemmas.Bool.{ne_eqb}
 use Rattle.std.proofs.lemmas.List.{take_more}
-use Rattle.ep_event.specs.declared.parts.EventLink.{EventLink}
 use Rattle.ep_event.proofs.MarkLemmas.{marks_none, marks_skip, marks_add, no_link, at_link}
 use Rattle.ep_event.proofs.marks.marks.Goals as goal
 use Rattle.ep_event.proofs.marks.marks.Goals.{then-link-agent, else-link-agent}

@@ -1,4 +1,4 @@
-use Rattle.std.proofs.Common.{◌≡◌, ◌∙◌, ap, false, slice_index_or}
+use Rattle.std.proofs.Common.{◌∙◌, ap, false, slice_index_or}
 use Rattle.std.proofs.lemmas.Result.{IfOk-weaker}
 use Rattle.ep_theory.specs.Numbers.{numbers_where}
 use Rattle.ep_event.specs.Built.{has_event}

@@ -1,6 +1,5 @@
-use Rattle.std.proofs.Common.{◌≡◌, sym, ◌∙◌, arith}
-use Rattle.ep_event.proofs.RepeatLemmas.{repeated_here, none_more}
-use Rattle.ep_event.specs.Refusals.{is_repeated}
+use Rattle.std.proofs.Common.{sym, ◌∙◌, arith}
+use Rattle.ep_event.proofs.RepeatLemmas.{repeated_here}
 use Rattle.ep_event.proofs.refusal.first_repeat.Goals as goal
 
 pub returns-then-is_repeat : goal.returns-then-is_repeat

@@ -1,4 +1,4 @@
-use Rattle.std.proofs.Common.{◌≡◌, ◌∙◌, ap, map}
+use Rattle.std.proofs.Common.{◌∙◌, ap, map}
 use Rattle.std.proofs.lemmas.Result.{IfOk-weaker}
 use Rattle.ep_event.proofs.MarkLemmas.{places_of, rows_are_linked}
 use Rattle.ep_event.proofs.relations.rows.Goals as goal

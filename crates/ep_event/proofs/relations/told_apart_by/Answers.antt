@@ -1,5 +1,4 @@
-use Rattle.std.proofs.Common.{◌≡◌, ◌∙◌, ap, refl, add-one}
-use Rattle.ep_event.specs.Relations.{two_rows}
+use Rattle.std.proofs.Common.{refl, add-one}
 use Rattle.ep_event.proofs.KindLemmas.{has_is_member}
 use Rattle.ep_event.proofs.relations.told_apart_by.Goals as goal
 

@@ -1,4 +1,4 @@
-use Rattle.std.proofs.Common.{◌∙◌, refl, []}
+use Rattle.std.proofs.Common.{refl, []}
 use Rattle.ep_event.proofs.KindLemmas.{assign_put_together, assign_is_sound}
 use Rattle.ep_event.proofs.action.Action.announce.Goals as goal
 

@@ -1,4 +1,4 @@
-use Rattle.std.proofs.Common.{◌∙◌, ◌≡◌, None, refl, sym, ap}
+use Rattle.std.proofs.Common.{◌∙◌, ◌≡◌, None, sym, ap}
 use Rattle.ep_event.specs.Refusals.{repeated_atom}
 use Rattle.ep_event.proofs.KindLemmas.{assign_put_together, assign_is_sound}
 use Rattle.ep_event.proofs.action.Action.assign.Goals as goal

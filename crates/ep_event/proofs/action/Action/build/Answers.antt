@@ -1,7 +1,3 @@
-use Rattle.std.proofs.Common.{◌≡◌, ◌∙◌, ap, length}
-use Rattle.ep_theory.specs.Numbers.{numbers_where, table}
-use Rattle.ep_event.specs.Built.{has_event}
-use Rattle.ep_event.specs.Relations.{linked_rows}
 use Rattle.ep_event.proofs.BuiltLemmas.{are_fine, put_together, built_is_sound}
 use Rattle.ep_event.proofs.action.Action.build.Goals as goal
 

@@ -1,4 +1,4 @@
-use Rattle.std.proofs.Common.{◌≡◌, subst, sym}
+use Rattle.std.proofs.Common.{subst, sym}
 use Rattle.ep_theory.specs.Events.{event_links}
 use Rattle.ep_theory.specs.Rising.{IsIn}
 use Rattle.ep_theory.proofs.Lists.{IsIn-successors, from_successors}

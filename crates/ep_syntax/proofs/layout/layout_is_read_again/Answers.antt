@@ -13,8 +13,9 @@ returns-clause-some c = λ tree f s.
     let ts = spelling_of tasks tree in
     let t = some-laid_out ts (spellings-task tree f) in
     let same = spellings-laid_out ts t.0 (spellings-task tree f) t.1 in
+    let other = found tasks ts task (task_outcome ts) tree f s refl in
     let r = found_reads tasks ts task (task_outcome ts) tree f s refl in
-    (found tasks ts task (task_outcome ts) tree f s refl, record { tokens = t.0; are_tokens = t.1; reads = subst (λ z. Reads tasks z _) (sym same) r })
+    (other, record { tokens = t.0; are_tokens = t.1; reads = subst (λ z. Reads tasks z other) (sym same) r })
 
 pub returns-clause-same : goal.returns-clause-same
 returns-clause-same c = λ tree other f s r.

@@ -1,0 +1,13 @@
+pub mod Layout
+pub mod Printing
+pub mod Terminals
+pub mod Marks
+pub mod Spelling
+pub mod Formed
+pub mod Bare
+pub mod Grammar
+pub mod Reading
+pub mod FormulaReading
+pub mod TaskReading
+pub mod Gives
+pub mod Answers

@@ -1,0 +1,32 @@
+-- The equations of the reader of formulas.
+use Rattle.std.proofs.Common.{◌≡◌, ◌≢◌, ℕ, zero, suc, ◌+◌, ◌-◌, ◌<◌, Bool, true, false, cond, List, [], ◌∷◌, ◌++◌, Result, Ok, Err, refl, sym, ap, ◌∙◌, arith, append_assoc}
+use Rattle.std.specs.Prelude.{◌==◌}
+use Rattle.ep_syntax.specs.declared.error.SyntaxError.{SyntaxError}
+use Rattle.ep_syntax.specs.declared.error.SyntaxError.TheVariants as error
+use Rattle.ep_syntax.specs.declared.terminal.Terminal.{Terminal}
+use Rattle.ep_syntax.specs.declared.tree.FormulaTree.{FormulaTree}
+use Rattle.ep_syntax.specs.FormulaReading.{formula, by_token, too_deep, starts_formula, some_behind}
+use Rattle.ep_syntax.specs.Gives.{Place, Gives, Stops}
+use Rattle.ep_syntax.specs.Reading.{Token, Fault, Syntax, TooDeep, Read, Reader, seq, paired, made, each_by, each, front, behind_key, is}
+use Rattle.ep_syntax.proofs.Loops.{Going}
+
+pub formula-suc : (depth n : ℕ) (ts : List Token) → 0 < depth → formula depth n ts ≡ by_token (depth - 1 == 0) (formula (depth - 1)) n ts
+unfolding formula
+formula-suc zero n ts l = absurd (omega arith)
+formula-suc (suc depth) n ts l = let h : depth ≡ suc depth - 1 = omega arith in ap (λ k. by_token (k == 0) (formula k) n ts) h
+
+formula-zero : (depth n : ℕ) (ts : List Token) → depth ≡ 0 → formula depth n ts ≡ too_deep n ts
+unfolding formula
+formula-zero depth n ts e = ap (λ k. formula k n ts) e
+
+pub formula-deep : (depth n : ℕ) (ts : List Token) → depth ≡ 0 → starts_formula ts ≡ true → formula depth n ts ≡ Err (TooDeep n)
+formula-deep depth n ts e s = formula-zero depth n ts e ∙ ap (λ b. cond b (Err (TooDeep n)) (Err (Syntax n))) s
+
+pub formula-none : (depth n : ℕ) (ts : List Token) → depth ≡ 0 → starts_formula ts ≡ false → formula depth n ts ≡ Err (Syntax n)
+formula-none depth n ts e s = formula-zero depth n ts e ∙ ap (λ b. cond b (Err (TooDeep n)) (Err (Syntax n))) s
+
+pub gives_same : {A : Type 0} (p q : Reader A) (old : Place) (r : Result A SyntaxError) (new : Place) → p old.0 old.1 ≡ q old.0 old.1 → Gives q old r new → Gives p old r new
+gives_same p q old (Ok a) new e g = e ∙ g
+gives_same p q old (Err error.OutOfMemory) new e g = tt
+gives_same p q old (Err (error.Syntax token)) new e g = e ∙ g
+gives_same p q old (Err (error.TooDeep token)) new e g = e ∙ g

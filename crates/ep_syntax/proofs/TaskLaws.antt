@@ -1,0 +1,70 @@
+-- The law of the reader of tasks.
+use Rattle.std.proofs.Common.{◌≡◌, ℕ, zero, suc, ◌+◌, ◌≤◌, ◌<◌, Bool, true, false, cond, IsTrue, IfSome, List, [], ◌∷◌, ◌++◌, length, map, Option, Some, None, Result, Ok, Err, refl, sym, ap, ◌∙◌, subst, arith, append_assoc}
+use Rattle.std.specs.List.{flat_map}
+use Rattle.std.proofs.lemmas.Bool.{false≢true}
+use Rattle.ep_syntax.specs.declared.terminal.Terminal.{Terminal}
+use Rattle.ep_syntax.specs.declared.terminal.Terminal.TheVariants as the
+use Rattle.ep_syntax.specs.declared.tree.TaskTree.{TaskTree}
+use Rattle.ep_syntax.specs.declared.tree.InitTree.TheVariants.{Lawful}
+use Rattle.ep_syntax.specs.declared.tree.FormulaTree.TheVariants as tree
+use Rattle.ep_syntax.specs.Grammar.{Grammar, tasks}
+use Rattle.ep_syntax.specs.Marks.{Mark, fixed, named, texts}
+use Rattle.ep_syntax.specs.Reading.{Token, Read, Reader, seq, made, is, begins, heads, key, name, each, some_each, behind_key, listed, any_listed, within, braced, whole}
+use Rattle.ep_syntax.specs.Spelling as spell
+use Rattle.ep_syntax.specs.Terminals.{text_of, is_name}
+use Rattle.ep_syntax.proofs.MarkLists.{Agree}
+use Rattle.ep_syntax.proofs.Laws.{Follow, IsSame, both, both_then, Makes, Made}
+use Rattle.ep_syntax.proofs.ListLaws.{Agree-heads, StartsWith, each_of, each_part, some_each_of, some_each_part, behind_of, keyed_part, listed_of, listed_part, any_listed_of, any_listed_part}
+use Rattle.ep_syntax.proofs.Readers.{Reads, Part, Any, Lacks, Next, pair, then, made_by, made_all, either, fewer, less, less_part, is-text_of, next_lacks, plain, plain_reads, plain_part, names_one, name_part, some_name}
+use Rattle.ep_syntax.specs.TaskReading.{Declarations, declarations, task_of, task, types, objects, fluents, init, schema, statement}
+use Rattle.ep_syntax.proofs.AtomLaws.{within_of}
+use Rattle.ep_syntax.proofs.ActionLaws.{schemas_of, schemas_part}
+use Rattle.ep_syntax.proofs.DeclarationLaws.{braced_of, types_of, types_part, objects_one, objects_part, fluents_one, fluents_part}
+use Rattle.ep_syntax.proofs.InitialLaws.{outer_one, statement_part, init_of, init_part}
+use Rattle.ep_syntax.proofs.Laws.{Outcome}
+use Rattle.ep_syntax.proofs.Layers.{some_formula}
+use Rattle.ep_syntax.proofs.Whole.{IsEmpty, whole_outcome}
+
+abbrev declarations_of : Grammar Declarations
+declarations_of = both (both (both (both (plain the.Task) names_one) (plain the.Semicolon)) types_of) (behind_of the.Objects (braced_of (each_of objects_one)))
+
+declarations_reads : (n : ℕ) (ts : List Token) → Reads declarations_of Any n ts (declarations n ts)
+unfolding declarations
+declarations_reads n ts = pair (then (then (then (plain_reads the.Task n ts) name_part) (plain_part the.Semicolon)) types_part) objects_part (λ _ _ _ _. refl)
+
+some_task : TaskTree
+some_task = record {
+  name = some_name;
+  types = None;
+  objects = [];
+  fluents = [];
+  init = Lawful [] None (tree.True 0) [] (tree.True 0);
+  schemas = [];
+  goal = tree.True 0;
+}
+
+regroup : (a b c : Mark) (ts os fs i ss g : List Mark) → a ∷ b ∷ c ∷ (ts ++ (os ++ (fs ++ (i ++ (ss ++ g))))) ≡ ((((((a ∷ b ∷ c ∷ []) ++ ts) ++ os) ++ fs) ++ i) ++ ss) ++ g
+regroup a b c ts os fs i ss g = simp append_assoc
+
+pub task_part : Part tasks Any task
+unfolding task some_task
+task_part = record {
+  reads = λ n ts. made_all
+      (record {
+        marks = λ a _. regroup (fixed the.Task) (named a.0.0.0.0.0.0.0.1) (fixed the.Semicolon) (spell.types a.0.0.0.0.0.1) (spell.objects a.0.0.0.0.1) (spell.fluents a.0.0.0.1) (spell.init a.0.0.1)
+            (flat_map spell.schema a.0.1) (fixed the.Goal ∷ (spell.formula a.1 ++ fixed the.Semicolon ∷ []));
+        formed = λ _ f. (f.0.0.0.0.0.0.0.1, f.0.0.0.0.0.1, f.0.0.0.0.1, f.0.0.0.1, f.0.0.1, f.0.1, f.1);
+        bare = λ _. refl;
+      })
+      (λ b f. record {
+        from = ((((((((0, b.name), 0), b.types), b.objects), b.fluents), b.init), b.schemas), b.goal);
+        formed = ((((((((tt, f.0), tt), f.1), f.2), f.3), f.4), f.5), f.6);
+        is = refl;
+      })
+      (pair (then (then (then (declarations_reads n ts) fluents_part) init_part) schemas_part) (statement_part the.Goal) (λ _ _ _ _. refl));
+  value = some_task;
+  formed = (refl, tt, tt, tt, (tt, tt, some_formula, tt, some_formula), tt, some_formula);
+}
+
+pub task_outcome : (ts : List Token) → Outcome tasks IsEmpty 0 ts (whole task 0 ts)
+task_outcome ts = whole_outcome task_part tt ts

@@ -1,0 +1,9 @@
+use Rattle.std.proofs.Common.{◌-◌}
+use Rattle.ep_syntax.specs.declared.terminal.Terminal.TheVariants as the
+use Rattle.ep_syntax.specs.Reading.{listed, behind_key, is}
+use Rattle.ep_syntax.proofs.Loops.{Going}
+use Rattle.ep_syntax.proofs.parse.one_or_more.Given as goal
+
+abbrev pub invariant-loop : goal.invariant-loop
+invariant-loop g l =
+    Going (is the.Comma) (behind_key the.Comma g.T.Parse.reads) (l.end - l.counter) l.items l.reader.0 l.reader.1 (listed the.Comma g.T.Parse.reads l.fn.reader.0 l.fn.reader.1)

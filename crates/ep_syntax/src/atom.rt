@@ -1,0 +1,114 @@
+//! Readers of names, atoms, groups and parameters.
+
+ghost use Rattle.std.specs.Prelude.{◌≡◌};
+ghost use Rattle.ep_syntax.specs.FormulaReading as reading;
+ghost use Rattle.ep_syntax.specs.Gives.{Gives};
+ghost use Rattle.ep_syntax.specs.Reading.{name};
+ghost use Rattle.ep_syntax.specs.Terminals.{is_name};
+
+use crate::error::SyntaxError;
+use crate::parse::{Parse, one_or_more, zero_or_more};
+use crate::reader::Reader;
+use crate::terminal::Terminal;
+use crate::tree::{AtomTree, GroupTree, Name, ParamTree};
+use ep_logic::List;
+use std::alloc::Global;
+
+impl Parse for Name {
+    ghost use Rattle.ep_syntax.specs.Reading.{name};
+    ghost use Rattle.ep_syntax.specs.Terminals.{is_name};
+
+    ghost starts = { is_name };
+
+    ghost reads = { name };
+
+    fn begins(reader: &Reader) -> bool {
+        reader.sees_name()
+    }
+
+    fn parse(reader: &mut Reader, alloc: Global) -> Result<Name, SyntaxError> {
+        reader.name(alloc)
+    }
+}
+
+/// Nothing, or names in parentheses.
+#[tactic(auto, unfolding(crate::specs::FormulaReading::arguments))]
+pub fn arguments(reader: &mut Reader, alloc: Global) -> Result<List<Name>, SyntaxError>
+    ensures { Gives reading.arguments reader.old result reader.new }
+{
+    if reader.sees(Terminal::OpenParen) {
+        reader.expect(Terminal::OpenParen)?;
+        let names = one_or_more(reader, alloc)?;
+        reader.expect(Terminal::CloseParen)?;
+        Ok(names)
+    } else {
+        Ok(List::new(alloc))
+    }
+}
+
+impl Parse for AtomTree {
+    ghost use Rattle.ep_syntax.specs.FormulaReading.{atom};
+    ghost use Rattle.ep_syntax.specs.Terminals.{is_name};
+
+    ghost starts = { is_name };
+
+    ghost reads = { atom };
+
+    fn begins(reader: &Reader) -> bool {
+        reader.sees_name()
+    }
+
+    #[tactic(auto, unfolding(crate::specs::FormulaReading::atom))]
+    fn parse(reader: &mut Reader, alloc: Global) -> Result<AtomTree, SyntaxError> {
+        let name = reader.name(alloc)?;
+        let args = arguments(reader, alloc)?;
+        Ok(AtomTree { name, args })
+    }
+}
+
+#[tactic(auto, unfolding(crate::specs::FormulaReading::group))]
+pub fn group(reader: &mut Reader, alloc: Global) -> Result<GroupTree, SyntaxError>
+    ensures { Gives reading.group reader.old result reader.new }
+{
+    if reader.sees(Terminal::All) {
+        let token = reader.expect(Terminal::All)?;
+        Ok(GroupTree::All { token })
+    } else {
+        let token = reader.expect(Terminal::OpenBrace)?;
+        let names = zero_or_more(reader, alloc)?;
+        reader.expect(Terminal::CloseBrace)?;
+        Ok(GroupTree::Members { token, names })
+    }
+}
+
+impl Parse for ParamTree {
+    ghost use Rattle.ep_syntax.specs.FormulaReading.{param};
+    ghost use Rattle.ep_syntax.specs.Terminals.{is_name};
+
+    ghost starts = { is_name };
+
+    ghost reads = { param };
+
+    fn begins(reader: &Reader) -> bool {
+        reader.sees_name()
+    }
+
+    #[tactic(auto, unfolding(crate::specs::FormulaReading::param))]
+    fn parse(reader: &mut Reader, alloc: Global) -> Result<ParamTree, SyntaxError> {
+        let name = reader.name(alloc)?;
+        reader.expect(Terminal::Colon)?;
+        let kind = reader.name(alloc)?;
+        Ok(ParamTree { name, kind })
+    }
+}
+
+/// Parameters in parentheses.
+#[tactic(auto, unfolding(crate::specs::FormulaReading::params))]
+pub fn params(reader: &mut Reader, alloc: Global) -> Result<List<ParamTree>, SyntaxError>
+    ensures { Gives reading.params reader.old result reader.new }
+{
+    reader.expect(Terminal::OpenParen)?;
+    let params = one_or_more(reader, alloc)?;
+    reader.expect(Terminal::CloseParen)?;
+    Ok(params)
+}

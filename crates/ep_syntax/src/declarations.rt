@@ -1,0 +1,109 @@
+//! Readers of the types, objects and fluents of a task.
+
+ghost use Rattle.std.specs.Prelude.{◌≡◌};
+ghost use Rattle.ep_syntax.specs.Gives.{Gives};
+ghost use Rattle.ep_syntax.specs.TaskReading as reading;
+
+use crate::atom::arguments;
+use crate::error::SyntaxError;
+use crate::parse::{Parse, braced_each, one_or_more};
+use crate::reader::Reader;
+use crate::terminal::Terminal;
+use crate::tree::{FluentTree, ObjectTree, TypeTree};
+use ep_logic::List;
+use std::alloc::Global;
+
+impl Parse for TypeTree {
+    ghost use Rattle.ep_syntax.specs.Terminals.{is_name};
+    ghost use Rattle.ep_syntax.specs.TaskReading.{type_entry};
+
+    ghost starts = { is_name };
+
+    ghost reads = { type_entry };
+
+    fn begins(reader: &Reader) -> bool {
+        reader.sees_name()
+    }
+
+    #[tactic(auto, unfolding(crate::specs::TaskReading::type_entry))]
+    fn parse(reader: &mut Reader, alloc: Global) -> Result<TypeTree, SyntaxError> {
+        let name = reader.name(alloc)?;
+        reader.expect(Terminal::Less)?;
+        let parent = reader.name(alloc)?;
+        reader.expect(Terminal::Semicolon)?;
+        Ok(TypeTree { name, parent })
+    }
+}
+
+/// The part `types`, if it is written.
+#[tactic(auto, unfolding(crate::specs::TaskReading::types))]
+pub fn types(reader: &mut Reader, alloc: Global) -> Result<Option<List<TypeTree>>, SyntaxError>
+    ensures { Gives reading.types reader.old result reader.new }
+{
+    if reader.sees(Terminal::Types) {
+        reader.expect(Terminal::Types)?;
+        let types = braced_each(reader, alloc)?;
+        Ok(Some(types))
+    } else {
+        Ok(None)
+    }
+}
+
+impl Parse for ObjectTree {
+    ghost use Rattle.ep_syntax.specs.Terminals.{is_name};
+    ghost use Rattle.ep_syntax.specs.TaskReading.{object_entry};
+
+    ghost starts = { is_name };
+
+    ghost reads = { object_entry };
+
+    fn begins(reader: &Reader) -> bool {
+        reader.sees_name()
+    }
+
+    #[tactic(auto, unfolding(crate::specs::TaskReading::object_entry))]
+    fn parse(reader: &mut Reader, alloc: Global) -> Result<ObjectTree, SyntaxError> {
+        let names = one_or_more(reader, alloc)?;
+        reader.expect(Terminal::Colon)?;
+        let kind = reader.name(alloc)?;
+        reader.expect(Terminal::Semicolon)?;
+        Ok(ObjectTree { names, kind })
+    }
+}
+
+#[tactic(auto, unfolding(crate::specs::TaskReading::objects))]
+pub fn objects(reader: &mut Reader, alloc: Global) -> Result<List<ObjectTree>, SyntaxError>
+    ensures { Gives reading.objects reader.old result reader.new }
+{
+    reader.expect(Terminal::Objects)?;
+    braced_each(reader, alloc)
+}
+
+impl Parse for FluentTree {
+    ghost use Rattle.ep_syntax.specs.Terminals.{is_name};
+    ghost use Rattle.ep_syntax.specs.TaskReading.{fluent_entry};
+
+    ghost starts = { is_name };
+
+    ghost reads = { fluent_entry };
+
+    fn begins(reader: &Reader) -> bool {
+        reader.sees_name()
+    }
+
+    #[tactic(auto, unfolding(crate::specs::TaskReading::fluent_entry))]
+    fn parse(reader: &mut Reader, alloc: Global) -> Result<FluentTree, SyntaxError> {
+        let name = reader.name(alloc)?;
+        let kinds = arguments(reader, alloc)?;
+        reader.expect(Terminal::Semicolon)?;
+        Ok(FluentTree { name, kinds })
+    }
+}
+
+#[tactic(auto, unfolding(crate::specs::TaskReading::fluents))]
+pub fn fluents(reader: &mut Reader, alloc: Global) -> Result<List<FluentTree>, SyntaxError>
+    ensures { Gives reading.fluents reader.old result reader.new }
+{
+    reader.expect(Terminal::Fluents)?;
+    braced_each(reader, alloc)
+}

@@ -1,0 +1,73 @@
+//! Names, atoms, groups and parameters.
+
+ghost use Rattle.std.specs.Prelude.{◌≡◌, OnOk};
+ghost use Rattle.ep_syntax.specs.Printing.{written};
+ghost use Rattle.ep_syntax.specs.Spelling as spell;
+
+use crate::print::{Print, print_between, print_listed};
+use crate::printer::Printer;
+use crate::terminal::Terminal;
+use crate::tree::{AtomTree, GroupTree, Name, ParamTree};
+use ep_logic::OutOfMemory;
+
+impl Print for Name {
+    ghost use Rattle.std.specs.Prelude.{[], ◌∷◌};
+    ghost use Rattle.ep_syntax.specs.Marks.{named};
+
+    ghost marks = { λ n. named n ∷ [] };
+
+    fn print(&self, printer: &mut Printer) -> Result<(), OutOfMemory> {
+        printer.name(self)
+    }
+}
+
+/// Nothing, or names in parentheses.
+#[tactic(auto, using(crate::proofs::PrintedLemmas::printed))]
+pub fn print_arguments(names: &[Name], printer: &mut Printer) -> Result<(), OutOfMemory>
+    ensures { OnOk result (printer.new ≡ written printer.old (spell.arguments names.now)) }
+{
+    if names.is_empty() {
+        return Ok(());
+    }
+    printer.fixed(Terminal::OpenParen)?;
+    print_between(names, Terminal::Comma, printer)?;
+    printer.fixed(Terminal::CloseParen)
+}
+
+impl Print for AtomTree {
+    ghost use Rattle.std.specs.Prelude.{None};
+    ghost use Rattle.ep_syntax.specs.Spelling.{atom};
+
+    ghost marks = { λ a. atom None a };
+
+    fn print(&self, printer: &mut Printer) -> Result<(), OutOfMemory> {
+        printer.name(&self.name)?;
+        print_arguments(self.args.as_slice(), printer)
+    }
+}
+
+impl Print for GroupTree {
+    ghost use Rattle.ep_syntax.specs.Spelling.{group};
+
+    ghost marks = { group };
+
+    #[tactic(auto, using(crate::proofs::PrintedLemmas::printed))]
+    fn print(&self, printer: &mut Printer) -> Result<(), OutOfMemory> {
+        match self {
+            GroupTree::All { .. } => printer.fixed(Terminal::All),
+            GroupTree::Members { names, .. } => print_listed(names.as_slice(), printer),
+        }
+    }
+}
+
+impl Print for ParamTree {
+    ghost use Rattle.ep_syntax.specs.Spelling.{param};
+
+    ghost marks = { param };
+
+    fn print(&self, printer: &mut Printer) -> Result<(), OutOfMemory> {
+        printer.name(&self.name)?;
+        printer.fixed(Terminal::Colon)?;
+        printer.name(&self.kind)
+    }
+}

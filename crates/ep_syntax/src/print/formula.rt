@@ -1,0 +1,116 @@
+//! Formulas. A formula is spelled alike at each nesting.
+
+ghost use Rattle.std.specs.Prelude.{◌≡◌, ℕ, [], ◌∷◌, ◌++◌, map, OnOk};
+ghost use Rattle.ep_syntax.specs.Marks.{fixed, named};
+ghost use Rattle.ep_syntax.specs.Printing.{written};
+ghost use Rattle.ep_syntax.specs.Spelling as spell;
+ghost use Rattle.ep_syntax.specs.declared.terminal.Terminal.TheVariants as the;
+
+use crate::print::{Print, print_between};
+use crate::printer::Printer;
+use crate::terminal::Terminal;
+use crate::tree::{FormulaTree, Name, ParamTree};
+use ep_logic::OutOfMemory;
+
+#[tactic(auto, using(crate::proofs::PrintedLemmas::printed))]
+fn print_params(params: &[ParamTree], printer: &mut Printer) -> Result<(), OutOfMemory>
+    ensures { OnOk result (printer.new ≡ written printer.old
+        (fixed the.OpenParen ∷ (spell.params params.now ++ fixed the.CloseParen ∷ []))) }
+{
+    printer.fixed(Terminal::OpenParen)?;
+    print_between(params, Terminal::Comma, printer)?;
+    printer.fixed(Terminal::CloseParen)
+}
+
+fn print_equality(left: &Name, right: &Name, printer: &mut Printer) -> Result<(), OutOfMemory>
+    ensures { OnOk result (printer.new ≡ written printer.old
+        (fixed the.OpenParen ∷ named left.now ∷ fixed the.Equals ∷ named right.now ∷ fixed the.CloseParen ∷ [])) }
+{
+    printer.fixed(Terminal::OpenParen)?;
+    printer.name(left)?;
+    printer.fixed(Terminal::Equals)?;
+    printer.name(right)?;
+    printer.fixed(Terminal::CloseParen)
+}
+
+#[cycle(print_formula)]
+#[tactic(auto, using(crate::proofs::PrintedLemmas::printed))]
+fn print_parts(
+    parts: &[FormulaTree],
+    terminal: Terminal,
+    printer: &mut Printer,
+) -> Result<(), OutOfMemory>
+    ensures { OnOk result ((k : ℕ) → printer.new ≡ written printer.old (spell.between terminal (map (λ p. spell.formula_at p k) parts.now))) }
+{
+    let Some((first, rest)) = parts.split_first() else {
+        return Ok(());
+    };
+    print_formula(first, printer)?;
+    for part in rest {
+        printer.fixed(terminal)?;
+        print_formula(part, printer)?;
+    }
+    Ok(())
+}
+
+#[cycle(print_formula)]
+#[tactic(auto, using(crate::proofs::PrintedLemmas::printed))]
+fn print_formula(formula: &FormulaTree, printer: &mut Printer) -> Result<(), OutOfMemory>
+    ensures { OnOk result ((k : ℕ) → printer.new ≡ written printer.old (spell.formula_at formula.now k)) }
+{
+    match formula {
+        FormulaTree::True { .. } => printer.fixed(Terminal::True),
+        FormulaTree::False { .. } => printer.fixed(Terminal::False),
+        FormulaTree::Atom { atom } => atom.print(printer),
+        FormulaTree::Not { inner, .. } => {
+            printer.fixed(Terminal::Not)?;
+            print_formula(inner.get(), printer)
+        }
+        FormulaTree::Knows { agent, inner, .. } => {
+            printer.fixed(Terminal::Knows)?;
+            printer.name(agent)?;
+            print_formula(inner.get(), printer)
+        }
+        FormulaTree::Common { group, inner, .. } => {
+            printer.fixed(Terminal::Common)?;
+            group.print(printer)?;
+            print_formula(inner.get(), printer)
+        }
+        FormulaTree::Forall { params, inner, .. } => {
+            printer.fixed(Terminal::Forall)?;
+            print_params(params.as_slice(), printer)?;
+            print_formula(inner.get(), printer)
+        }
+        FormulaTree::Exists { params, inner, .. } => {
+            printer.fixed(Terminal::Exists)?;
+            print_params(params.as_slice(), printer)?;
+            print_formula(inner.get(), printer)
+        }
+        FormulaTree::Equal { left, right, .. } => print_equality(left, right, printer),
+        FormulaTree::Paren { inner, .. } => {
+            printer.fixed(Terminal::OpenParen)?;
+            print_formula(inner.get(), printer)?;
+            printer.fixed(Terminal::CloseParen)
+        }
+        FormulaTree::And { parts, .. } => {
+            printer.fixed(Terminal::OpenParen)?;
+            print_parts(parts.as_slice(), Terminal::And, printer)?;
+            printer.fixed(Terminal::CloseParen)
+        }
+        FormulaTree::Or { parts, .. } => {
+            printer.fixed(Terminal::OpenParen)?;
+            print_parts(parts.as_slice(), Terminal::Or, printer)?;
+            printer.fixed(Terminal::CloseParen)
+        }
+    }
+}
+
+impl Print for FormulaTree {
+    ghost use Rattle.ep_syntax.specs.Spelling.{formula};
+
+    ghost marks = { formula };
+
+    fn print(&self, printer: &mut Printer) -> Result<(), OutOfMemory> {
+        print_formula(self, printer)
+    }
+}

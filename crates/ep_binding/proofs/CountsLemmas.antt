@@ -25,7 +25,7 @@ count-within (c ∷ cs) h =
     let e : 64 ^ suc (length cs) ≡ 64 * 64 ^ length cs = omega arith in
     omega arith
 
-few-objects : (cs : List (List ℕ)) → All IsObjects cs → All (λ c. length c ≤ 64) cs
+pub few-objects : (cs : List (List ℕ)) → All IsObjects cs → All (λ c. length c ≤ 64) cs
 few-objects cs h = All-weaker IsObjects (λ c. length c ≤ 64) (λ c o. o.few) cs h
 
 pub distinct-within : (cs : List (List ℕ)) → All IsObjects cs → length (distinct_bindings cs) ≤ 64 ^ length cs

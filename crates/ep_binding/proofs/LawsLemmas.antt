@@ -79,11 +79,13 @@ contains-kept p (y ∷ ys) x (suc k, h, e) q =
     kept-step y x (filter p ys) (p y) (contains-kept p ys x (k, omega arith, e) q)
 
 pub distinct-among : (cs : List (List ℕ)) (b : List ℕ) → Contains (distinct_bindings cs) b ↔ (IsBinding cs b × IsApart b)
-distinct-among cs b =
-    (λ h.
-    (All-contains (IsBinding cs) (distinct_bindings cs) b (All-filter all_different (IsBinding cs) (bindings cs) (all-bindings cs)) h,
-    different-tells b (All-contains (λ b. all_different b ≡ true) (distinct_bindings cs) b (filter_passes all_different (bindings cs)) h)),
-    λ h. contains-kept all_different (bindings cs) b (among-bindings cs b h.0) (different-from b h.1))
+distinct-among cs b = (
+  λ h. (
+    All-contains (IsBinding cs) (distinct_bindings cs) b (All-filter all_different (IsBinding cs) (bindings cs) (all-bindings cs)) h,
+    different-tells b (All-contains (λ b. all_different b ≡ true) (distinct_bindings cs) b (filter_passes all_different (bindings cs)) h),
+  ),
+  λ h. contains-kept all_different (bindings cs) b (among-bindings cs b h.0) (different-from b h.1),
+)
 
 -- a relation at all pairs of bindings: of two with one first object by the rest, else by the first objects
 module _ (Q : ℕ → ℕ → Type 0) (R : List ℕ → List ℕ → Type 0)

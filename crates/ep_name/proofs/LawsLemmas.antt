@@ -1,10 +1,11 @@
 -- Printed names tell the declared name and the objects.
-use Rattle.std.proofs.Common.{◌≡◌, ◌≢◌, ℕ, List, [], ◌∷◌, ◌++◌, All, refl, ap, ◌∙◌, sym, subst, arith, inl, inr}
-use Rattle.std.specs.Prelude.{◌⊎◌}
+use Rattle.std.proofs.Common.{◌≡◌, ◌≢◌, ℕ, ◌<◌, length, map, get_or, List, [], ◌∷◌, ◌++◌, All, refl, ◌∙◌, sym, arith, inl, inr}
+use Rattle.std.specs.Prelude.{AllPairs}
 use Rattle.std.specs.List.{join_with_byte}
-use Rattle.std.proofs.lemmas.List.{append_assoc}
-use Rattle.std.proofs.lemmas.List.Elements.{All-head, All-tail}
-use Rattle.ep_name.specs.Names.{printed, IsPlain, IsPlainByte}
+use Rattle.std.proofs.lemmas.List.{append_assoc, get_or-map, length-map}
+use Rattle.std.proofs.lemmas.Bool.{cases_order}
+use Rattle.std.proofs.lemmas.List.Elements.{All-head, All-tail, All-map, All-get_or}
+use Rattle.ep_name.specs.Names.{printed, printed_at, IsPlain, IsPlainByte}
 
 -- a mark is none of the bytes of a plain name
 abbrev IsMark : ℕ → Type 0
@@ -84,3 +85,44 @@ printed-tells n m (o ∷ os) [] a b h k e = absurd (no_mark m n 40 (closed o os)
 printed-tells n m (o ∷ os) (p ∷ ps) a b h k e =
     let r = cut n m 40 40 (closed o os) (closed p ps) a b opens opens (sym (printed-some n o os) ∙ e ∙ printed-some m p ps) in
     (r.0, closed-tells o p os ps (All-head IsPlain o os h) (All-head IsPlain p ps k) (All-tail IsPlain o os h) (All-tail IsPlain p ps k) r.2)
+
+-- one declared name with different objects
+module _ (names : List (List ℕ)) (plain : All IsPlain names) (apart : AllPairs (λ x y. x ≢ y) names) where
+  abbrev InRange : List ℕ → Type 0
+  InRange b = All (λ o. o < length names) b
+
+  abbrev name_at : ℕ → List ℕ
+  name_at o = get_or names o []
+
+  plain-names : (b : List ℕ) → InRange b → All IsPlain (map name_at b)
+  plain-names b h =
+      All-map IsPlain name_at b (λ k d l. All-get_or IsPlain names (get_or b k d) [] (All-get_or (λ o. o < length names) b k d l h) plain)
+
+  same-object : (o p : ℕ) → o < length names → p < length names → name_at o ≡ name_at p → o ≡ p
+  same-object o p h k e = elim (cases_order o p) [
+    | inl same ↦ same
+    | inr (inl below) ↦ absurd (apart o p [] below k e)
+    | inr (inr above) ↦ absurd (apart p o [] above h (sym e))
+  ]
+
+  same-objects : (a b : List ℕ) → InRange a → InRange b → map name_at a ≡ map name_at b → a ≡ b
+  same-objects [] [] h k e = refl
+  same-objects [] (p ∷ b) h k e = cc
+  same-objects (o ∷ a) [] h k e = cc
+  same-objects (o ∷ a) (p ∷ b) h k e =
+      cons-both o p a b
+      (same-object o p (All-head (λ o. o < length names) o a h) (All-head (λ o. o < length names) p b k) cc)
+      (same-objects a b (All-tail (λ o. o < length names) o a h) (All-tail (λ o. o < length names) p b k) cc)
+
+  pub printed-apart : (name : List ℕ) (bs : List (List ℕ)) → IsPlain name → All (λ b. All (λ o. o < length names) b) bs →
+      AllPairs (λ a b. a ≢ b) bs → AllPairs (λ x y. x ≢ y) (map (printed_at name names) bs)
+  printed-apart name bs n h k i j d below within e =
+      let long = length-map bs (printed_at name names) in
+      let a = get_or bs i [] in
+      let b = get_or bs j [] in
+      let same : printed_at name names a ≡ printed_at name names b =
+      sym (get_or-map (printed_at name names) bs i [] d (omega arith)) ∙ e ∙ get_or-map (printed_at name names) bs j [] d (omega arith) in
+      let at_i : InRange a = All-get_or InRange bs i [] (omega arith) h in
+      let at_j : InRange b = All-get_or InRange bs j [] (omega arith) h in
+      let told = printed-tells name name (map name_at a) (map name_at b) n n (plain-names a at_i) (plain-names b at_j) same in
+      k i j [] below (omega arith) (same-objects a b at_i at_j told.1)

@@ -1,11 +1,11 @@
 -- A table's texts at their places.
-use Rattle.std.proofs.Common.{◌≡◌, ◌≢◌, ℕ, ◌+◌, ◌<◌, ◌^◌, Bool, true, false, cond, Option, None, Some, List, [], ◌∷◌, ◌++◌, length, map, All, refl, ap, ◌∙◌, sym, arith, subst, is_some}
+use Rattle.std.proofs.Common.{◌≡◌, ◌≢◌, ℕ, ◌+◌, ◌<◌, ◌^◌, Bool, true, false, cond, Option, None, Some, List, [], ◌∷◌, ◌++◌, length, All, refl, ap, ◌∙◌, sym, arith, subst, is_some}
 use Rattle.std.specs.Prelude.{nat_eq, AllPairs}
 use Rattle.std.specs.Global.{Vec}
 use Rattle.std.specs.Cmp.Lexicographic.{pointwise, bytes_decides}
 use Rattle.std.specs.Map.{lookup}
 use Rattle.std.proofs.lemmas.Bool.{true≢false}
-use Rattle.std.proofs.lemmas.List.{map-append, length-append, length-map}
+use Rattle.std.proofs.lemmas.List.{map-append, length-append}
 use Rattle.std.proofs.lemmas.List.Elements.{All-nil, All-cons, All-head, All-tail, All-push}
 use Rattle.std.proofs.lemmas.List.Quantifiers.{all_pairs_push}
 use Rattle.ep_name.specs.Tables.{texts_of, IsTable}
@@ -64,7 +64,8 @@ apart-push : (xs : List (List ℕ)) (x : List ℕ) → AllPairs (λ y z. y ≢ z
 apart-push xs x h k = all_pairs_push (λ y z. y ≢ z) xs x h k
 
 pub table-push : (es : List Entry) (e : Entry) → IsTable es → e.0.items ≡ e.1 → All (λ y. y ≢ e.1) (texts_of es) → length es + 1 < 2 ^ 32 → IsTable (es ++ e ∷ [])
-table-push es e t h k l =
-    (All-push (λ e. e.0.items ≡ e.1) es e t.0 h,
-    subst (AllPairs (λ y z. y ≢ z)) (sym (texts-push es e)) (apart-push (texts_of es) e.1 t.1 k),
-    let n = length-append es (e ∷ []) in omega arith)
+table-push es e t h k l = (
+  All-push (λ e. e.0.items ≡ e.1) es e t.0 h,
+  subst (AllPairs (λ y z. y ≢ z)) (sym (texts-push es e)) (apart-push (texts_of es) e.1 t.1 k),
+  let n = length-append es (e ∷ []) in omega arith,
+)

@@ -7,3 +7,6 @@ pub mod table;
 
 pub use print::printed;
 pub use table::NameTable;
+
+#[cfg(test)]
+mod tests;

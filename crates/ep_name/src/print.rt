@@ -1,7 +1,7 @@
 // Printed names of ground atoms and actions.
 
-ghost use Rattle.std.specs.Prelude.{◌≡◌, ◌<◌, [], All, IfOk, length, map, slice_index_or};
-ghost use Rattle.ep_name.specs.Names.{printed, mark_before};
+ghost use Rattle.std.specs.Prelude.{◌≡◌, ◌<◌, All, IfOk, length};
+ghost use Rattle.ep_name.specs.Names.{printed_at, mark_before};
 
 use ep_logic::{OutOfMemory, Text};
 use std::alloc::Global;
@@ -15,8 +15,7 @@ pub fn printed(
     objects: &[u32],
 ) -> Result<Text, OutOfMemory>
     requires { All (λ o. o < length names.now) objects.now }
-    ensures { IfOk result (λ text. text
-        ≡ printed name.now (map (λ o. slice_index_or names.now o []) objects.now)) }
+    ensures { IfOk result (λ text. text ≡ printed_at name.now names.now objects.now) }
 {
     let mut text = Vec::from_slice(alloc, name.as_slice())?;
     for (place, object) in objects.iter().enumerate() {

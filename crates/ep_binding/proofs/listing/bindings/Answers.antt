@@ -1,4 +1,4 @@
-use Rattle.std.proofs.Common.{◌≡◌, Bool, false, ap, ◌∙◌, sym}
+use Rattle.std.proofs.Common.{◌∙◌, sym}
 use Rattle.std.proofs.lemmas.Bool.{both_ways}
 use Rattle.ep_binding.proofs.ListingLemmas.{none-bound}
 use Rattle.ep_binding.proofs.listing.bindings.Goals as goal

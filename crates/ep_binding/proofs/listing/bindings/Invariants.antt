@@ -1,4 +1,4 @@
-use Rattle.std.proofs.Common.{◌≡◌, ◌≤◌, drop, length}
+use Rattle.std.proofs.Common.{◌≡◌, drop}
 use Rattle.ep_binding.specs.Bindings.{bindings}
 use Rattle.ep_binding.proofs.listing.bindings.Given as goal
 

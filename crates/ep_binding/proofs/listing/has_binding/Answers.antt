@@ -1,6 +1,5 @@
-use Rattle.std.proofs.Common.{rules, ◌≡◌, ◌<◌, All, length, subst, sym}
+use Rattle.std.proofs.Common.{rules, ◌<◌, All, length, subst, sym}
 use Rattle.std.specs.Prelude.{◌↔◌, IsTrue}
-use Rattle.ep_binding.specs.Bindings.{bindings}
 use Rattle.ep_binding.proofs.ListingLemmas.{length-bindings, count-positive, positive-count}
 use Rattle.ep_binding.proofs.listing.has_binding.Goals as goal
 

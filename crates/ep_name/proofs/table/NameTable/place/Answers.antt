@@ -1,4 +1,4 @@
-use Rattle.std.proofs.Common.{◌≡◌, ◌≢◌, All, slice_get, ap, subst, sym, ◌∙◌}
+use Rattle.std.proofs.Common.{◌≢◌, All, slice_get, ap, subst, sym, ◌∙◌}
 use Rattle.std.specs.Prelude.{IfNone}
 use Rattle.ep_name.proofs.TableLemmas.{found, lacking}
 use Rattle.ep_name.proofs.table.NameTable.place.Goals as goal

@@ -1,0 +1,2 @@
+pub mod PlanningTask
+pub mod Plans

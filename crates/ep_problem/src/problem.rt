@@ -1,0 +1,105 @@
+ghost use Rattle.std.specs.Prelude.{◌≡◌, ◌<◌, ◌≤◌, Some, length, slice_get};
+ghost use Rattle.std.specs.List.{AllByRecursion};
+ghost use Rattle.ep_theory.specs.Events.{IsAction};
+ghost use Rattle.ep_theory.specs.Fits.{Fits, ActionFits};
+ghost use Rattle.ep_problem.specs.PlanningTask.{IsPlanningTask, IsSmall};
+
+use ep_event::Action;
+use ep_kripke::State;
+use ep_logic::{ActionId, Formula, List};
+use std::marker::Model;
+
+/// A list of actions, by their places in a problem.
+pub type Plan = List<ActionId>;
+
+/// An initial state of at most 256 worlds, at most 1,024 actions and a goal, all among the same agents and atoms.
+/// Contracts see it as the planning task of Bolander and Andersen, *Epistemic planning for single- and multi-agent
+/// systems* (2011).
+#[derive(Debug, Drop)]
+pub struct Problem {
+    initial: State,
+    actions: List<Action>,
+    goal: Formula,
+}
+
+impl Model for Problem {
+    ghost use Rattle.ep_logic.specs.contracts.formula.Node as e;
+    ghost use Rattle.std.specs.Coded.{codes};
+    ghost use Rattle.ep_problem.specs.PlanningTask.{PlanningTask, IsPlanningTask, IsSmall};
+
+    ghost Value = { PlanningTask };
+
+    ghost coded = { Prim.hlevel (codes, e.the_row.coded) };
+
+    ghost view = { λ p. record { initial = p.initial; actions = p.actions; goal = p.goal } };
+
+    ghost invariant = { λ p. let task : PlanningTask = record { initial = p.initial; actions = p.actions; goal = p.goal } in
+        IsPlanningTask task × IsSmall task };
+}
+
+impl Problem {
+    /// The problem with these parts. It takes no memory.
+    pub fn new(initial: State, actions: List<Action>, goal: Formula) -> Problem
+        requires worlds { initial.worlds ≤ 256 }
+        requires actions { length actions ≤ 1024 }
+        requires fit { AllByRecursion (ActionFits initial) actions }
+        requires goal { Fits initial goal }
+        ensures { result ≡ record { initial = initial; actions = actions; goal = goal } }
+    {
+        let _worlds = initial.worlds();
+        look_at(actions.as_slice());
+        Problem {
+            initial,
+            actions,
+            goal,
+        }
+    }
+
+    pub fn initial(&self) -> &State
+        ensures value { result.now ≡ self.now.initial }
+        ensures valid { IsPlanningTask self.now }
+        ensures small { IsSmall self.now }
+    {
+        &self.initial
+    }
+
+    /// The number of actions.
+    pub fn actions(&self) -> u32
+        ensures value { result ≡ length self.now.actions }
+        ensures valid { IsPlanningTask self.now }
+        ensures small { IsSmall self.now }
+    {
+        self.actions.as_slice().len() as u32
+    }
+
+    /// The action at a place.
+    pub fn action(&self, a: ActionId) -> &Action
+        requires { a.n < length self.now.actions }
+        ensures value { slice_get self.now.actions a.n ≡ Some result.now }
+        ensures action { IsAction result.now }
+        ensures fits { ActionFits self.now.initial result.now }
+        ensures valid { IsPlanningTask self.now }
+        ensures small { IsSmall self.now }
+    {
+        let action = &self.actions.as_slice()[a.n as usize];
+        let _agents = action.agents();
+        action
+    }
+
+    pub fn goal(&self) -> &Formula
+        ensures value { result.now ≡ self.now.goal }
+        ensures valid { IsPlanningTask self.now }
+        ensures small { IsSmall self.now }
+    {
+        &self.goal
+    }
+}
+
+// Each action is one, which its calls say.
+fn look_at(actions: &[Action])
+    ensures { AllByRecursion IsAction actions.now }
+{
+    for action in actions {
+        let _agents = action.agents();
+    }
+}

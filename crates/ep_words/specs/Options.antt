@@ -1,0 +1,60 @@
+-- The options of `plan`. This project's own.
+use Rattle.std.specs.Prelude.{◌≡◌, ℕ, zero, suc, ◌≤◌, Bool, true, false, List, [], ◌∷◌, Option, None, Some, unwrap_or, codes, decimal}
+use Rattle.ep_words.specs.declared.options.PlanOption.{PlanOption}
+use Rattle.ep_words.specs.declared.options.PlanOption.TheVariants.{Depth, States, Worlds, Guide, First}
+use Rattle.ep_words.specs.declared.options.Options.{Options}
+use Rattle.ep_words.specs.declared.command.Command.{Command}
+use Rattle.ep_words.specs.declared.command.Command.TheVariants.{Plan}
+
+abbrev pub Word : Type 0
+Word = List ℕ
+
+abbrev pub guide_word : ℕ → Word
+guide_word zero = codes "depth"
+guide_word (suc zero) = codes "unmet"
+guide_word (suc (suc n)) = codes "worlds"
+
+-- how an option is written
+abbrev pub option_words : PlanOption → List Word
+option_words (Depth n) = codes "--depth" ∷ decimal n ∷ []
+option_words (States n) = codes "--states" ∷ decimal n ∷ []
+option_words (Worlds n) = codes "--worlds" ∷ decimal n ∷ []
+option_words (Guide n) = codes "--guide" ∷ guide_word n ∷ []
+option_words First = codes "--first" ∷ codes "yes" ∷ []
+
+-- the value is within its limits
+abbrev pub IsWithin : PlanOption → Type 0
+IsWithin (Depth n) = n ≤ 1000
+IsWithin (States n) = (1 ≤ n) × (n ≤ 16384)
+IsWithin (Worlds n) = (1 ≤ n) × (n ≤ 256)
+IsWithin (Guide n) = n ≤ 2
+IsWithin First = Unit {0}
+
+abbrev pub no_options : Options
+no_options = record { depth = None; states = None; worlds = None; guide = None; first = false }
+
+-- the option is not among these
+abbrev pub IsNew : PlanOption → Options → Type 0
+IsNew (Depth n) os = os.depth ≡ None
+IsNew (States n) os = os.states ≡ None
+IsNew (Worlds n) os = os.worlds ≡ None
+IsNew (Guide n) os = os.guide ≡ None
+IsNew First os = os.first ≡ false
+
+-- these and the option
+abbrev pub and_option : Options → PlanOption → Options
+and_option os (Depth n) = record os { depth = Some n }
+and_option os (States n) = record os { states = Some n }
+and_option os (Worlds n) = record os { worlds = Some n }
+and_option os (Guide n) = record os { guide = Some n }
+and_option os First = record os { first = true }
+
+-- the words are those of further options in any order, each at most once and within its limits, with which there are all
+pub data AreOptions : List Word → Options → Options → Type 0 where
+  no_more : {os : Options} → AreOptions [] os os
+  one_more : {name value : Word} {words : List Word} {os all : Options} (o : PlanOption)
+      → option_words o ≡ name ∷ value ∷ [] → IsWithin o → IsNew o os → AreOptions words (and_option os o) all → AreOptions (name ∷ value ∷ words) os all
+
+-- the command with the values that are given, and else depth 8, 1,000 states, 256 worlds, the guide `depth`, and a shortest plan
+abbrev pub plan_of : Options → Command
+plan_of os = Plan (record { depth = unwrap_or os.depth 8; states = unwrap_or os.states 1000; worlds = unwrap_or os.worlds 256 }) (unwrap_or os.guide 0) os.first

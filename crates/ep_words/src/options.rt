@@ -1,0 +1,152 @@
+//! The options of `plan`.
+
+ghost use Rattle.std.specs.Prelude.{◌≡◌, ◌≢◌, ◌≤◌, ◌↔◌, ℕ, [], ◌∷◌, IsFalse, MatchOption, map, string_bytes};
+ghost use Rattle.ep_words.specs.Options.{option_words, guide_word, IsWithin, IsNew, and_option, AreOptions, no_options, plan_of};
+ghost use Rattle.ep_words.specs.declared.options.PlanOption.TheVariants.{Guide};
+ghost use Rattle.ep_words.specs.declared.options.PlanOption as option;
+ghost use Rattle.ep_words.specs.declared.options.Options as given;
+
+use crate::command::{Bounds, Command};
+use crate::number::number;
+
+/// An option with its value.
+#[derive(Clone, Copy, Debug, PartialEq, Eq)]
+pub enum PlanOption {
+    Depth(u32),
+    States(u32),
+    Worlds(u32),
+    Guide(u32),
+    First,
+}
+
+/// The options that are given.
+#[derive(Clone, Copy, Debug, PartialEq, Eq)]
+pub struct Options {
+    pub depth: Option<u32>,
+    pub states: Option<u32>,
+    pub worlds: Option<u32>,
+    pub guide: Option<u32>,
+    pub first: bool,
+}
+
+fn guide(word: &str) -> Option<u32>
+    ensures { MatchOption result ((n : ℕ) → n ≤ 2 → word.now ≢ guide_word n) (λ n. (word.now ≡ guide_word n) × IsWithin (Guide n)) }
+{
+    if word == "depth" {
+        Some(0)
+    } else if word == "unmet" {
+        Some(1)
+    } else if word == "worlds" {
+        Some(2)
+    } else {
+        None
+    }
+}
+
+// The option that two words write.
+fn option(name: &str, value: &str) -> Option<PlanOption>
+    ensures { MatchOption result
+        ((o : option.PlanOption) → IsWithin o → option_words o ≢ name.now ∷ value.now ∷ [])
+        (λ o. IsWithin o × (option_words o ≡ name.now ∷ value.now ∷ [])) }
+{
+    if name == "--depth" {
+        number(value, 0, 1000).map(PlanOption::Depth)
+    } else if name == "--states" {
+        number(value, 1, 16384).map(PlanOption::States)
+    } else if name == "--worlds" {
+        number(value, 1, 256).map(PlanOption::Worlds)
+    } else if name == "--guide" {
+        guide(value).map(PlanOption::Guide)
+    } else if name == "--first" && value == "yes" {
+        Some(PlanOption::First)
+    } else {
+        None
+    }
+}
+
+impl Options {
+    pub fn none() -> Options
+        ensures { result ≡ no_options }
+    {
+        Options {
+            depth: None,
+            states: None,
+            worlds: None,
+            guide: None,
+            first: false,
+        }
+    }
+
+    fn has(&self, option: PlanOption) -> bool
+        ensures { IsFalse result ↔ IsNew option self.now }
+    {
+        match option {
+            PlanOption::Depth(_) => self.depth.is_some(),
+            PlanOption::States(_) => self.states.is_some(),
+            PlanOption::Worlds(_) => self.worlds.is_some(),
+            PlanOption::Guide(_) => self.guide.is_some(),
+            PlanOption::First => self.first,
+        }
+    }
+
+    fn and(self, option: PlanOption) -> Options
+        ensures { result ≡ and_option self option }
+    {
+        match option {
+            PlanOption::Depth(n) => Options {
+                depth: Some(n),
+                ..self
+            },
+            PlanOption::States(n) => Options {
+                states: Some(n),
+                ..self
+            },
+            PlanOption::Worlds(n) => Options {
+                worlds: Some(n),
+                ..self
+            },
+            PlanOption::Guide(n) => Options {
+                guide: Some(n),
+                ..self
+            },
+            PlanOption::First => Options {
+                first: true,
+                ..self
+            },
+        }
+    }
+
+    /// The command with these options.
+    pub fn plan(&self) -> Command
+        ensures { result ≡ plan_of self.now }
+    {
+        Command::Plan {
+            bounds: Bounds {
+                depth: self.depth.unwrap_or(8),
+                states: self.states.unwrap_or(1000),
+                worlds: self.worlds.unwrap_or(256),
+            },
+            guide: self.guide.unwrap_or(0),
+            first: self.first,
+        }
+    }
+}
+
+/// All options, where the words are those of further ones.
+pub fn read_options(words: &[String], options: Options) -> Option<Options>
+    ensures { MatchOption result
+        ((all : given.Options) → AreOptions (map string_bytes words.now) options all → ⊥)
+        (λ all. AreOptions (map string_bytes words.now) options all) }
+{
+    match words {
+        [] => Some(options),
+        [name, value, more @ ..] => {
+            let option = option(name.as_str(), value.as_str())?;
+            if options.has(option) {
+                return None;
+            }
+            read_options(more, options.and(option))
+        }
+        _ => None,
+    }
+}

@@ -1,21 +1,44 @@
 -- The status and the text of each answer. A text ends with a line feed.
 use Rattle.std.specs.Prelude.{ℕ, List, [], ◌∷◌, ◌++◌, codes}
+use Rattle.std.specs.Fmt.{decimal}
 use Rattle.ep_cli.specs.declared.answer.Answer.{Answer}
 use Rattle.ep_cli.specs.declared.answer.Answer.TheVariants.{Refused, Unreadable}
 use Rattle.ep_cli.specs.declared.answer.Cause.{Cause}
-use Rattle.ep_cli.specs.declared.answer.Cause.TheVariants.{NoSuchFile, TooLong, NotBuilt}
+use Rattle.ep_cli.specs.declared.answer.Cause.TheVariants.{NoSuchFile, TooLong, StrayByte, TooManyTokens, Syntax, TooDeep, Mistyped, NotBuilt}
+use Rattle.ep_cli.specs.declared.answer.Place.{Place}
 use Rattle.ep_cli.specs.declared.answer.Subject.{Subject}
 use Rattle.ep_cli.specs.declared.answer.Subject.TheVariants.{Words, Task}
 use Rattle.ep_cli.specs.declared.status.Status.{Status}
 use Rattle.ep_cli.specs.declared.status.Status.TheVariants as status
+use Rattle.ep_types.specs.declared.fault.TypeFault.{TypeFault}
+use Rattle.ep_types.specs.declared.fault.TypeFault.TheVariants as type_fault
 
 abbrev pub subject_text : Subject → List ℕ
 subject_text Words = codes "words"
 subject_text Task = codes "task"
 
+-- numbers are in decimal
+abbrev pub place_text : Place → List ℕ
+place_text place = codes "token " ++ decimal place.token ++ codes ", line " ++ decimal place.line
+
+abbrev pub fault_text : TypeFault → List ℕ
+fault_text type_fault.TooManyParameters = codes "too many parameters"
+fault_text type_fault.Duplicate = codes "duplicate name"
+fault_text type_fault.Unknown = codes "unknown name"
+fault_text type_fault.WrongArity = codes "wrong number of arguments"
+fault_text type_fault.WrongType = codes "wrong type"
+fault_text type_fault.NotAgent = codes "not an agent"
+fault_text type_fault.EmptyGroup = codes "empty group"
+fault_text type_fault.NotObjective = codes "knowledge not allowed"
+
 abbrev pub cause_text : Cause → List ℕ
 cause_text NoSuchFile = codes "no such file"
 cause_text TooLong = codes "too long"
+cause_text (StrayByte at) = codes "stray byte at " ++ decimal at
+cause_text TooManyTokens = codes "too many tokens"
+cause_text (Syntax place) = codes "syntax at " ++ place_text place
+cause_text (TooDeep place) = codes "too deep at " ++ place_text place
+cause_text (Mistyped fault place) = fault_text fault ++ codes " at " ++ place_text place
 cause_text NotBuilt = codes "not built"
 
 abbrev pub answer_text : Answer → List ℕ

@@ -1,8 +1,9 @@
 // What is answered, as a status and a text.
 ghost use Rattle.std.specs.Prelude.{◌≡◌, Some};
-ghost use Rattle.ep_cli.specs.Answer.{subject_text, cause_text, answer_text, answer_status};
+ghost use Rattle.ep_cli.specs.Answer.{subject_text, place_text, fault_text, cause_text, answer_text, answer_status};
 
 use crate::Status;
+use ep_types::TypeFault;
 use std::fmt;
 
 /// What an answer speaks of.
@@ -23,11 +24,32 @@ impl fmt::Display for Subject {
     }
 }
 
+/// A token of a text by its number, or the end where that is the number of tokens, with its line.
+#[derive(Clone, Copy, Debug, PartialEq, Eq)]
+pub struct Place {
+    pub token: u32,
+    pub line: u32,
+}
+
+impl fmt::Display for Place {
+    ghost output = { λ p. Some (place_text p) };
+
+    fn fmt<W: fmt::Write>(&self, f: &mut fmt::Formatter<W>) -> fmt::Result {
+        write!(f, "token {}, line {}", self.token, self.line)
+    }
+}
+
 /// Why a text is refused.
 #[derive(Clone, Copy, Debug, PartialEq, Eq)]
 pub enum Cause {
     NoSuchFile,
     TooLong,
+    /// `at` is the number of bytes before the stray one.
+    StrayByte { at: u32 },
+    TooManyTokens,
+    Syntax(Place),
+    TooDeep(Place),
+    Mistyped(TypeFault, Place),
     NotBuilt,
 }
 
@@ -35,11 +57,31 @@ impl fmt::Display for Cause {
     ghost output = { λ c. Some (cause_text c) };
 
     fn fmt<W: fmt::Write>(&self, f: &mut fmt::Formatter<W>) -> fmt::Result {
-        f.write_str(match self {
-            Cause::NoSuchFile => "no such file",
-            Cause::TooLong => "too long",
-            Cause::NotBuilt => "not built",
-        })
+        match self {
+            Cause::NoSuchFile => f.write_str("no such file"),
+            Cause::TooLong => f.write_str("too long"),
+            Cause::StrayByte { at } => write!(f, "stray byte at {at}"),
+            Cause::TooManyTokens => f.write_str("too many tokens"),
+            Cause::Syntax(place) => write!(f, "syntax at {place}"),
+            Cause::TooDeep(place) => write!(f, "too deep at {place}"),
+            Cause::Mistyped(fault, place) => write!(f, "{} at {place}", fault_words(*fault)),
+            Cause::NotBuilt => f.write_str("not built"),
+        }
+    }
+}
+
+fn fault_words(fault: TypeFault) -> &'static str
+    ensures { result.now ≡ fault_text fault }
+{
+    match fault {
+        TypeFault::TooManyParameters => "too many parameters",
+        TypeFault::Duplicate => "duplicate name",
+        TypeFault::Unknown => "unknown name",
+        TypeFault::WrongArity => "wrong number of arguments",
+        TypeFault::WrongType => "wrong type",
+        TypeFault::NotAgent => "not an agent",
+        TypeFault::EmptyGroup => "empty group",
+        TypeFault::NotObjective => "knowledge not allowed",
     }
 }
 
@@ -71,4 +113,11 @@ impl fmt::Display for Answer {
             Answer::Unreadable(subject) => write!(f, "fault: {subject} cannot be read\n"),
         }
     }
+}
+
+/// Why the work of a command ends before its end.
+#[derive(Debug, Drop)]
+pub enum Stop {
+    Told(Answer),
+    OutOfMemory,
 }

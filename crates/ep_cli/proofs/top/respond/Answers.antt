@@ -1,10 +1,12 @@
 -- What a command answers its words answer.
-use Rattle.std.proofs.lemmas.Result.{IfOk-weaker}
 use Rattle.ep_cli.specs.Built.{PlanAtZero}
 use Rattle.ep_cli.proofs.Lift.{IsAnswer-command}
 use Rattle.ep_cli.proofs.top.respond.Goals as goal
 
-pub returns-in-Some-clause-answer : goal.returns-in-Some-clause-answer
-returns-in-Some-clause-answer g c =
-    IfOk-weaker _ _ _ (λ answer a. IsAnswer-command _ (PlanAtZero _) _ _ _ _ c.in-Some.ensures a)
-    c.plan_at_zero.ensures.answer
+pub returns-in-Ok-clause-answer : goal.returns-in-Ok-clause-answer
+returns-in-Ok-clause-answer g c = IsAnswer-command _ (PlanAtZero _) _ _ _ _ c.in-Some.ensures c.in-Ok.ensures.answer
+
+pub returns-in-Err-Told-clause-answer : goal.returns-in-Err-Told-clause-answer
+returns-in-Err-Told-clause-answer g c =
+    let told = rw c.in-Err-Told.field-0-is at c.in-Err-Told.ensures.answer in
+    IsAnswer-command _ (PlanAtZero _) _ _ _ _ c.in-Some.ensures told

@@ -1,1 +1,4 @@
 pub mod QuotientLemmas
+pub mod RowBytesLemmas
+pub mod BytesLemmas
+pub mod WritingLemmas

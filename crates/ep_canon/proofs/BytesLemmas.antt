@@ -15,7 +15,8 @@ use Rattle.ep_theory.proofs.Lists.{at_All, All-from_each, same_rising, from_succ
 use Rattle.ep_theory.proofs.NumbersLemmas.{length-table, get_or-table, from_table, to_has_number, from_has_number}
 use Rattle.ep_theory.proofs.Unique.{numbers, pairs, same_places, links_rising, links_within}
 use Rattle.ep_canon.specs.Bytes.{row_size, row_bytes, members, successor_rows, header, bytes_of}
-use Rattle.ep_canon.proofs.RowBytesLemmas.{bit_from, length-row_bytes, bit_of_row, length-pieces, at_piece}
+use Rattle.ep_canon.specs.Reading.{bit_from}
+use Rattle.ep_canon.proofs.RowBytesLemmas.{length-row_bytes, bit_of_row, length-pieces, at_piece}
 
 -- where the rows of successors and the row of the designated worlds begin
 abbrev pub links_begin : Kripke → ℕ

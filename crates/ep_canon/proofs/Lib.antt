@@ -2,3 +2,5 @@ pub mod QuotientLemmas
 pub mod RowBytesLemmas
 pub mod BytesLemmas
 pub mod WritingLemmas
+pub mod ToldLemmas
+pub mod ReadingLemmas

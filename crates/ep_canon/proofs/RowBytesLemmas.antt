@@ -44,10 +44,6 @@ digit_test : (b : Bool) → (cond b 1 0 == 1) ≡ b
 digit_test true = refl
 digit_test false = refl
 
--- the value of bit i, from the byte at a place on
-abbrev pub bit_from : List ℕ → ℕ → ℕ → Bool
-bit_from bytes at i = bit_at (get_or bytes (at + i / 8) 0) (i % 8) == 1
-
 pub length-row_bytes : (row : List Bool) → length (row_bytes row) ≡ row_size (length row)
 length-row_bytes row = length-table (row_byte row) (row_size (length row))
 

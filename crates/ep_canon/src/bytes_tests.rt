@@ -1,4 +1,4 @@
-use crate::{Canon, contract, same};
+use crate::{Canon, CanonError, contract, same};
 use ep_kripke::{Link, State, StateError, StateParts};
 use ep_logic::{AgentId, Bits, List, OutOfMemory, WorldId};
 use std::alloc::Global;
@@ -235,6 +235,68 @@ fn bisimilar_or_not(rt: HostRuntime) -> Result<(), Fail> {
         let second = state(&rt, alloc, &second)?;
         assert!(rt; first.worlds() <= 4096 && second.worlds() <= 4096);
         assert_eq!(rt; same(alloc, &first, &second)?, wanted);
+    }
+    Ok(())
+}
+
+// Bytes that are read are written again.
+#[test]
+fn read_and_written(rt: HostRuntime) -> Result<(), Fail> {
+    let alloc = rt.alloc();
+    for (_given, bytes) in BYTES {
+        let canon = Canon::read(alloc, bytes)?;
+        assert_eq!(rt; canon.state().worlds(), u32::from(bytes[1]));
+        assert_eq!(rt; canon.bytes(alloc)?.as_slice(), bytes);
+    }
+    let many = contracted(&rt, alloc, &MANY_ATOMS)?.bytes(alloc)?;
+    let canon = Canon::read(alloc, many.as_slice())?;
+    assert_eq!(rt; canon.state().atoms(), 256);
+    Ok(())
+}
+
+const NOT_CANONICAL: [&[u8]; 12] = [
+    &[],
+    // Worlds in another order.
+    &[0, 2, 2, 0, 1, 1, 0, 3, 3, 3, 3, 1],
+    // A bit past the last atom, past the last successor and past the last world.
+    &[0, 1, 2, 0, 1, 3, 1, 1, 1],
+    &[0, 1, 2, 0, 1, 1, 3, 1, 1],
+    &[0, 1, 2, 0, 1, 1, 1, 1, 3],
+    // No world is designated, and no world at all.
+    &[0, 1, 2, 0, 1, 1, 1, 1, 0],
+    &[0, 0, 2, 0, 1],
+    // A world that is not reached, and two worlds that are bisimilar.
+    &[0, 2, 0, 0, 1, 0, 1, 1],
+    &[0, 2, 0, 0, 0, 3],
+    // Nine agents, more worlds than there may be, and the greatest numbers.
+    &[0, 1, 9, 0, 0, 0, 0, 0, 0, 0, 0, 0, 0, 0, 1],
+    &[16, 1, 0, 0, 0, 1],
+    &[255, 255, 255, 255, 255],
+];
+
+fn is_refused(alloc: Global, bytes: &[u8]) -> bool {
+    Canon::read(alloc, bytes).err() == Some(CanonError::NotCanonical)
+}
+
+#[test]
+fn not_canonical(rt: HostRuntime) -> Result<(), Fail> {
+    let alloc = rt.alloc();
+    for bytes in NOT_CANONICAL {
+        assert!(rt; is_refused(alloc, bytes), "{bytes:?}");
+    }
+    Ok(())
+}
+
+#[test]
+fn cut_short_or_longer(rt: HostRuntime) -> Result<(), Fail> {
+    let alloc = rt.alloc();
+    for (_given, bytes) in BYTES {
+        for n in 0..bytes.len() {
+            assert!(rt; is_refused(alloc, &bytes[..n]), "{n} of {bytes:?}");
+        }
+        let mut longer = Vec::from_slice(alloc, bytes)?;
+        longer.push(0)?;
+        assert!(rt; is_refused(alloc, &longer), "{longer:?}");
     }
     Ok(())
 }

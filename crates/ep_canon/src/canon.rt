@@ -1,6 +1,6 @@
 // Canonical states and contraction.
 
-ghost use Rattle.std.specs.Prelude.{◌≡◌, ℕ, ◌≤◌, ◌↔◌, IfOk, IsTrue};
+ghost use Rattle.std.specs.Prelude.{◌≡◌, ℕ, ◌≤◌, ◌↔◌, IfErr, IfOk, IsTrue};
 ghost use Rattle.ep_logic.specs.declared.formula.Node.{Node};
 ghost use Rattle.ep_theory.specs.Rising.{IsIn};
 ghost use Rattle.ep_theory.specs.Kripke.{Kripke, IsState};
@@ -8,9 +8,11 @@ ghost use Rattle.ep_theory.specs.Truth.{Truth};
 ghost use Rattle.ep_theory.specs.Bisimulation.{Bisimilar};
 ghost use Rattle.ep_theory.specs.Canonical.{IsCanonical, Contracts};
 ghost use Rattle.ep_canon.specs.Bytes.{bytes_of, IsSmall};
+ghost use Rattle.ep_canon.specs.Reading.{HasBytes, IsRefused};
 
 use crate::bytes::written;
 use crate::quotient::quotient;
+use crate::reading::{CanonError, read_sizes, read_state};
 use ep_kripke::State;
 use ep_logic::{List, OutOfMemory};
 use ep_refine::{classes, reachable, restrict};
@@ -55,6 +57,22 @@ impl Canon {
         ensures small { IsSmall self.now }
     {
         Ok(List::from_vec(written(alloc, &self.state)?))
+    }
+
+    /// The canonical state that has these bytes. Bytes from anywhere may be given: the memory that is taken is a
+    /// small multiple of their number.
+    pub fn read(alloc: Global, bytes: &[u8]) -> Result<Canon, CanonError>
+        ensures ok { IfOk result (HasBytes bytes.now) }
+        ensures only { IfOk result (λ c. (D : Kripke) → HasBytes bytes.now D → D ≡ c) }
+        ensures refused { IfErr result (IsRefused bytes.now) }
+    {
+        let sizes = read_sizes(bytes)?;
+        let state = read_state(alloc, bytes, &sizes)?;
+        let canon = contract(alloc, &state)?;
+        if canon.bytes(alloc)?.as_slice() != bytes {
+            return Err(CanonError::NotCanonical);
+        }
+        Ok(canon)
     }
 
     pub fn copy(&self, alloc: Global) -> Result<Canon, OutOfMemory>

@@ -5,9 +5,11 @@ mod bytes;
 mod canon;
 mod laws;
 mod quotient;
+mod reading;
 
 pub use canon::{Canon, contract, same};
 pub use laws::{bytes_decide, bytes_of_contractions_decide};
+pub use reading::CanonError;
 
 #[cfg(test)]
 mod bytes_tests;

@@ -1,21 +1,59 @@
 -- What bytes tell is the state whose bytes they are.
-use Rattle.std.proofs.Common.{◌≡◌, ◌≢◌, ℕ, ◌+◌, ◌*◌, ◌<◌, Bool, true, false, not, List, [], length, get_or, refl, sym, ap, subst, ◌∙◌, arith}
-use Rattle.std.specs.Prelude.{nat_eq}
+use Rattle.std.proofs.Common.{◌≡◌, ◌≢◌, ℕ, ◌+◌, ◌*◌, ◌<◌, Bool, true, false, not, List, [], length, get_or, refl, sym, ap, subst, ◌∙◌, arith, IsTrue}
+use Rattle.std.specs.Prelude.{nat_eq, nat_lt, ◌&&◌}
 use Rattle.std.specs.Cmp.Lexicographic.{pointwise}
-use Rattle.std.proofs.lemmas.Bool.{false≢true}
+use Rattle.std.proofs.lemmas.Bool.{false≢true, ltb-true, lt-ltb}
+use Rattle.std.proofs.lemmas.List.{get_or_past, nil_from_length}
 use Rattle.std.proofs.lemmas.Slice.Eq.{bytes_eq-Decides}
 use Rattle.ep_theory.specs.Rising.{IsIn}
 use Rattle.ep_theory.specs.Numbers.{has_number}
-use Rattle.ep_theory.specs.Kripke.{Kripke, IsState, successors}
+use Rattle.ep_theory.specs.Kripke.{Kripke, IsState, links_of, truth_of, successors}
+use Rattle.ep_theory.specs.Bisimulation.{BisimilarWorlds}
 use Rattle.ep_theory.specs.Canonical.{IsCanonical}
+use Rattle.ep_theory.proofs.Bools.{and_parts, and_whole}
+use Rattle.ep_theory.proofs.Canonical.{apart_in_canonical}
 use Rattle.ep_theory.proofs.Exists.{some_element}
+use Rattle.ep_theory.proofs.Filters.{All-at}
 use Rattle.ep_theory.proofs.Lists.{at_All}
 use Rattle.ep_theory.proofs.NumbersLemmas.{get_or-table, in_numbers, to_has_number}
 use Rattle.ep_canon.specs.declared.reading.Sizes.{Sizes}
 use Rattle.ep_canon.specs.Bytes.{row_size, bytes_of}
-use Rattle.ep_canon.specs.Reading.{HasBytes, AreSmall, AreSizes, bit_from, agent_size, links_begin, designated_begin, whole_length, told_row, told_designated, told}
+use Rattle.ep_canon.specs.Reading.{HasBytes, AreSmall, AreAlike, AreSizes, bit_from, agent_size, links_begin, designated_begin, whole_length, told_row, told_designated, told}
 use Rattle.ep_canon.proofs.BytesLemmas.{first_of_bytes, agents_of_bytes, atoms_of_bytes, length-bytes, truth_bit, link_bit, designated_bit, same_from_values, same_bytes}
 use Rattle.ep_canon.proofs.ToldLemmas.{has_chosen, has_paired, told_worlds, told_links}
+
+-- without agents and atoms all worlds are bisimilar
+module _ (D : Kripke) (d : IsState D) (no_agent : D.agents ≡ 0) (no_atom : D.atoms ≡ 0) where
+  any_two : ℕ → ℕ → Bool
+  any_two w v = nat_lt w D.worlds && nat_lt v D.worlds
+
+  no_link : (a : ℕ) (p : ℕ × ℕ) → IsIn p (links_of D a) → ⊥
+  no_link a p i = subst (IsIn p) (get_or_past D.links a [] (omega (arith, d.relations, no_agent))) i
+
+  no_truth : (w : ℕ) → w < D.worlds → truth_of D w ≡ []
+  no_truth w l = nil_from_length (truth_of D w) (All-at (λ t. length t ≡ D.atoms) D.truth w [] (omega (arith, d.truths, l)) d.each_truth ∙ no_atom)
+
+  both_within : (w v : ℕ) → IsTrue (any_two w v) → (w < D.worlds) × (v < D.worlds)
+  unfolding any_two
+  both_within w v t = let b = and_parts (nat_lt w D.worlds) (nat_lt v D.worlds) t in (ltb-true w D.worlds b.0, ltb-true v D.worlds b.1)
+
+  any_two_alike : (w v : ℕ) → w < D.worlds → v < D.worlds → BisimilarWorlds D w D v
+  unfolding any_two
+  any_two_alike w v l k = (
+    any_two,
+    record {
+      agents = refl;
+      atoms = refl;
+      within = both_within;
+      truth = λ w v t. let b = both_within w v t in no_truth w b.0 ∙ sym (no_truth v b.1);
+      forth = λ a w v u t i. absurd (no_link a (w, u) i);
+      back = λ a w v x t i. absurd (no_link a (v, x) i);
+    },
+    and_whole (nat_lt w D.worlds) (nat_lt v D.worlds) (lt-ltb w D.worlds l) (lt-ltb v D.worlds k),
+  )
+
+  pub one_world : IsCanonical D → 1 < D.worlds → ⊥
+  one_world c l = let same : 0 ≡ 1 = apart_in_canonical D d c 0 1 (omega (arith, l)) l (any_two_alike 0 1 (omega (arith, l)) l) in absurd (omega (arith, same))
 
 module _ (bytes : List ℕ) (D : Kripke) (h : HasBytes bytes D) where
   byte : (k : ℕ) → get_or (bytes_of D) k 0 ≡ get_or bytes k 0
@@ -55,6 +93,9 @@ module _ (bytes : List ℕ) (D : Kripke) (h : HasBytes bytes D) where
       agents = omega (arith, agents, h.small.agents);
       atoms = omega (arith, atoms, h.small.atoms);
     }
+
+    pub are_told_apart : AreAlike s → ⊥
+    are_told_apart e = one_world D h.valid (omega (arith, agents, e.agents)) (omega (arith, atoms, e.atoms)) h.canonical (omega (arith, worlds, e.worlds))
 
     pub are_long : length bytes ≡ whole_length s
     are_long = long ∙ sym (λ i. 5 + worlds i * row_size (atoms i) + agents i * (worlds i * row_size (worlds i)) + row_size (worlds i))

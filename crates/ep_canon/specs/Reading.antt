@@ -46,6 +46,12 @@ pub record AreSmall (s : Sizes) : Type 0 where
   pub agents : s.agents ≤ 8
   pub atoms : s.atoms ≤ 256
 
+-- there are two worlds, and neither an agent nor an atom that tells them apart
+pub record AreAlike (s : Sizes) : Type 0 where
+  pub worlds : 1 < s.worlds
+  pub agents : s.agents ≡ 0
+  pub atoms : s.atoms ≡ 0
+
 -- the bytes tell these sizes, and are as many as those of a state of these sizes
 pub record AreSizes (bytes : List ℕ) (s : Sizes) : Type 0 where
   pub small : AreSmall s

@@ -3,7 +3,7 @@
 ghost use Rattle.std.specs.Prelude.{◌≡◌, ◌+◌, ◌*◌, ◌/◌, ◌<◌, ◌≤◌, ◌↔◌, length, IsTrue, IfErr, IfOk};
 ghost use Rattle.ep_theory.specs.Kripke.{IsState};
 ghost use Rattle.ep_canon.specs.Bytes.{row_size};
-ghost use Rattle.ep_canon.specs.Reading.{AreSizes, AreSmall, IsRefused, agent_size, bit_from, designated_begin, links_begin, told, told_numbers, told_relations, told_row, told_rows, told_truth, whole_length};
+ghost use Rattle.ep_canon.specs.Reading.{AreAlike, AreSizes, AreSmall, IsRefused, agent_size, bit_from, designated_begin, links_begin, told, told_numbers, told_relations, told_row, told_rows, told_truth, whole_length};
 
 use ep_kripke::{Rows, State};
 use ep_logic::{Bits, List, OutOfMemory};
@@ -52,6 +52,9 @@ pub fn read_sizes(bytes: &[u8]) -> Result<Sizes, CanonError>
     if !are_small(&sizes) {
         return Err(CanonError::NotCanonical);
     }
+    if are_alike(&sizes) {
+        return Err(CanonError::NotCanonical);
+    }
     if bytes.len() != length_of(&sizes) {
         return Err(CanonError::NotCanonical);
     }
@@ -62,6 +65,14 @@ fn are_small(sizes: &Sizes) -> bool
     ensures { IsTrue result ↔ AreSmall sizes.now }
 {
     0 < sizes.worlds && sizes.worlds <= 4096 && sizes.agents <= 8 && sizes.atoms <= 256
+}
+
+// Whether there are two worlds or more, and neither an agent nor an atom that could tell them apart. Such bytes would
+// have only a bit for each world, which takes far more memory.
+fn are_alike(sizes: &Sizes) -> bool
+    ensures { IsTrue result ↔ AreAlike sizes.now }
+{
+    sizes.worlds > 1 && sizes.agents == 0 && sizes.atoms == 0
 }
 
 // How many bytes a row of so many values has.

@@ -1,1 +1,6 @@
 pub mod QuotientLemmas
+pub mod RowBytesLemmas
+pub mod BytesLemmas
+pub mod WritingLemmas
+pub mod ToldLemmas
+pub mod ReadingLemmas

@@ -1,8 +1,8 @@
 -- The quotient by classes of bisimilar worlds is the contraction.
-use Rattle.std.proofs.Common.{◌≡◌, ◌≢◌, ℕ, zero, suc, ◌<◌, ◌≤◌, ◌+◌, ◌⊎◌, ⊎_elim, Bool, true, false, List, [], ◌∷◌, length, get_or, set, replicate, slice_index, refl, sym, ap, subst, ◌∙◌, arith, IsTrue, ◌↔◌, Result, Ok, Err, IfOk}
-use Rattle.std.proofs.lemmas.List.{get_or-set_other, get_or-set_same, length-set}
+use Rattle.std.proofs.Common.{◌≡◌, ◌≢◌, ℕ, zero, suc, ◌<◌, ◌≤◌, ◌+◌, ◌⊎◌, ⊎_elim, Bool, true, List, [], ◌∷◌, length, get_or, set, replicate, slice_index, refl, sym, ap, subst, ◌∙◌, arith, IsTrue, ◌↔◌, Result, Ok, Err, IfOk}
+use Rattle.std.proofs.lemmas.List.{get_or-set_other, get_or-set_same}
 use Rattle.ep_theory.specs.Rising.{IsIn}
-use Rattle.ep_theory.specs.Kripke.{Kripke, IsState, links_of, truth_of}
+use Rattle.ep_theory.specs.Kripke.{Kripke, IsState}
 use Rattle.ep_theory.specs.Bisimulation.{BisimilarWorlds, Bisimilar}
 use Rattle.ep_theory.specs.Canonical.{Reached, Contracts, IsCanonical, start, step}
 use Rattle.ep_theory.specs.Ranks.{RanksAt}

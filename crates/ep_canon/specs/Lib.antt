@@ -1,1 +1,3 @@
 pub mod Quotient
+pub mod Bytes
+pub mod Reading

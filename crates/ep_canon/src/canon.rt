@@ -1,15 +1,20 @@
 // Canonical states and contraction.
 
-ghost use Rattle.std.specs.Prelude.{◌≡◌, ℕ, ◌≤◌, ◌↔◌, IfOk};
+ghost use Rattle.std.specs.Prelude.{◌≡◌, ℕ, ◌≤◌, ◌↔◌, IfErr, IfOk, IsTrue};
 ghost use Rattle.ep_logic.specs.declared.formula.Node.{Node};
 ghost use Rattle.ep_theory.specs.Rising.{IsIn};
 ghost use Rattle.ep_theory.specs.Kripke.{Kripke, IsState};
 ghost use Rattle.ep_theory.specs.Truth.{Truth};
+ghost use Rattle.ep_theory.specs.Bisimulation.{Bisimilar};
 ghost use Rattle.ep_theory.specs.Canonical.{IsCanonical, Contracts};
+ghost use Rattle.ep_canon.specs.Bytes.{bytes_of, IsSmall};
+ghost use Rattle.ep_canon.specs.Reading.{HasBytes, IsRefused};
 
+use crate::bytes::written;
 use crate::quotient::quotient;
+use crate::reading::{CanonError, read_sizes, read_state};
 use ep_kripke::State;
-use ep_logic::OutOfMemory;
+use ep_logic::{List, OutOfMemory};
 use ep_refine::{classes, reachable, restrict};
 use std::alloc::Global;
 use std::marker::Model;
@@ -39,6 +44,35 @@ impl Canon {
         ensures small { self.now.worlds ≤ 4096 }
     {
         &self.state
+    }
+
+    /// The canonical bytes of the state: the number of worlds, two bytes, the high one first; of agents, one byte; of
+    /// atoms, two bytes; then rows, a bit for each thing, the first as the least bit of the first byte and the last
+    /// byte filled with 0: for each world its truth row, for each agent and each world the row of its successors, and
+    /// the row of the designated worlds. This project's own.
+    pub fn bytes(&self, alloc: Global) -> Result<List<u8>, OutOfMemory>
+        ensures value { IfOk result (λ bytes. bytes ≡ bytes_of self.now) }
+        ensures valid { IsState self.now }
+        ensures canonical { IsCanonical self.now }
+        ensures small { IsSmall self.now }
+    {
+        Ok(List::from_vec(written(alloc, &self.state)?))
+    }
+
+    /// The canonical state that has these bytes. Bytes from anywhere may be given: the memory that is taken is a
+    /// small multiple of their number.
+    pub fn read(alloc: Global, bytes: &[u8]) -> Result<Canon, CanonError>
+        ensures ok { IfOk result (HasBytes bytes.now) }
+        ensures only { IfOk result (λ c. (D : Kripke) → HasBytes bytes.now D → D ≡ c) }
+        ensures refused { IfErr result (IsRefused bytes.now) }
+    {
+        let sizes = read_sizes(bytes)?;
+        let state = read_state(alloc, bytes, &sizes)?;
+        let canon = contract(alloc, &state)?;
+        if canon.bytes(alloc)?.as_slice() != bytes {
+            return Err(CanonError::NotCanonical);
+        }
+        Ok(canon)
     }
 
     pub fn copy(&self, alloc: Global) -> Result<Canon, OutOfMemory>
@@ -71,4 +105,17 @@ pub fn contract(alloc: Global, s: &State) -> Result<Canon, OutOfMemory>
     let numbers = classes(alloc, &part)?;
     let state = quotient(alloc, &part, &numbers)?;
     Ok(Canon { state })
+}
+
+/// Whether the states are bisimilar. Their numbers of agents and of atoms may differ.
+pub fn same(alloc: Global, s: &State, t: &State) -> Result<bool, OutOfMemory>
+    requires first { s.now.worlds ≤ 4096 }
+    requires second { t.now.worlds ≤ 4096 }
+    ensures { IfOk result (λ b. IsTrue b ↔ Bisimilar s.now t.now) }
+{
+    let first = contract(alloc, s)?;
+    let second = contract(alloc, t)?;
+    let first_bytes = first.bytes(alloc)?;
+    let second_bytes = second.bytes(alloc)?;
+    Ok(first_bytes.as_slice() == second_bytes.as_slice())
 }

@@ -1,10 +1,17 @@
 //! Canonical states: the contraction of a state, and its bytes.
 #![tactic(auto)]
 
+mod bytes;
 mod canon;
+mod laws;
 mod quotient;
+mod reading;
 
-pub use canon::{Canon, contract};
+pub use canon::{Canon, contract, same};
+pub use laws::{bytes_decide, bytes_of_contractions_decide};
+pub use reading::CanonError;
 
+#[cfg(test)]
+mod bytes_tests;
 #[cfg(test)]
 mod tests;

@@ -1,4 +1,4 @@
-use Rattle.std.proofs.Common.{◌≡◌, arith, ◌<◌}
+use Rattle.std.proofs.Common.{arith}
 use Rattle.ep_theory.proofs.SameTruth.{same_at_all, same_at_some}
 use Rattle.ep_refine.proofs.KeptLemmas.{kept_few}
 use Rattle.ep_canon.proofs.QuotientLemmas.{keeps_designated, from_row, to_row, part_is_reached, contracts_part, only_one, own_contraction}

@@ -1,4 +1,4 @@
-use Rattle.std.proofs.Common.{◌≡◌, true, false, length, replicate, sym, ◌∙◌, arith}
+use Rattle.std.proofs.Common.{true, false, replicate, sym, ◌∙◌, arith}
 use Rattle.std.proofs.Math.ListN.{length-replicate}
 use Rattle.ep_theory.proofs.Unique.{same_places}
 use Rattle.ep_canon.proofs.QuotientLemmas.{all_true}

@@ -1,4 +1,4 @@
-use Rattle.std.proofs.Common.{◌≡◌, length, arith, ◌∙◌}
+use Rattle.std.proofs.Common.{arith, ◌∙◌}
 use Rattle.std.proofs.lemmas.List.{length-set}
 use Rattle.ep_canon.proofs.QuotientLemmas.{put_one, class_below, each_stands}
 use Rattle.ep_canon.proofs.quotient.one_of_each.Goals as goal

@@ -1,4 +1,4 @@
-use Rattle.std.proofs.Common.{◌≡◌, List, ℕ, true, replicate, length, slice_index, sym, ap, subst, ◌∙◌}
+use Rattle.std.proofs.Common.{List, ℕ, true, replicate, length, slice_index, sym, ap, subst, ◌∙◌}
 use Rattle.ep_theory.specs.Kripke.{IsState}
 use Rattle.ep_theory.specs.Canonical.{Contracts}
 use Rattle.ep_theory.specs.Image.{IsImage}

@@ -1,0 +1,158 @@
+-- What bytes tell is the state whose bytes they are.
+use Rattle.std.proofs.Common.{◌≡◌, ◌≢◌, ℕ, ◌+◌, ◌*◌, ◌<◌, Bool, true, false, not, List, [], length, get_or, refl, sym, ap, subst, ◌∙◌, arith, IsTrue}
+use Rattle.std.specs.Prelude.{nat_eq, nat_lt, ◌&&◌}
+use Rattle.std.specs.Cmp.Lexicographic.{pointwise}
+use Rattle.std.proofs.lemmas.Bool.{false≢true, ltb-true, lt-ltb}
+use Rattle.std.proofs.lemmas.List.{get_or_past, nil_from_length}
+use Rattle.std.proofs.lemmas.Slice.Eq.{bytes_eq-Decides}
+use Rattle.ep_theory.specs.Rising.{IsIn}
+use Rattle.ep_theory.specs.Numbers.{has_number}
+use Rattle.ep_theory.specs.Kripke.{Kripke, IsState, links_of, truth_of, successors}
+use Rattle.ep_theory.specs.Bisimulation.{BisimilarWorlds}
+use Rattle.ep_theory.specs.Canonical.{IsCanonical}
+use Rattle.ep_theory.proofs.Bools.{and_parts, and_whole}
+use Rattle.ep_theory.proofs.Canonical.{apart_in_canonical}
+use Rattle.ep_theory.proofs.Exists.{some_element}
+use Rattle.ep_theory.proofs.Filters.{All-at}
+use Rattle.ep_theory.proofs.Lists.{at_All}
+use Rattle.ep_theory.proofs.NumbersLemmas.{get_or-table, in_numbers, to_has_number}
+use Rattle.ep_canon.specs.declared.reading.Sizes.{Sizes}
+use Rattle.ep_canon.specs.Bytes.{row_size, bytes_of}
+use Rattle.ep_canon.specs.Reading.{HasBytes, AreSmall, AreAlike, AreSizes, bit_from, agent_size, links_begin, designated_begin, whole_length, told_row, told_designated, told}
+use Rattle.ep_canon.proofs.BytesLemmas.{first_of_bytes, agents_of_bytes, atoms_of_bytes, length-bytes, truth_bit, link_bit, designated_bit, same_from_values, same_bytes}
+use Rattle.ep_canon.proofs.ToldLemmas.{has_chosen, has_paired, told_worlds, told_links}
+
+-- without agents and atoms all worlds are bisimilar
+module _ (D : Kripke) (d : IsState D) (no_agent : D.agents ≡ 0) (no_atom : D.atoms ≡ 0) where
+  any_two : ℕ → ℕ → Bool
+  any_two w v = nat_lt w D.worlds && nat_lt v D.worlds
+
+  no_link : (a : ℕ) (p : ℕ × ℕ) → IsIn p (links_of D a) → ⊥
+  no_link a p i = subst (IsIn p) (get_or_past D.links a [] (omega (arith, d.relations, no_agent))) i
+
+  no_truth : (w : ℕ) → w < D.worlds → truth_of D w ≡ []
+  no_truth w l = nil_from_length (truth_of D w) (All-at (λ t. length t ≡ D.atoms) D.truth w [] (omega (arith, d.truths, l)) d.each_truth ∙ no_atom)
+
+  both_within : (w v : ℕ) → IsTrue (any_two w v) → (w < D.worlds) × (v < D.worlds)
+  unfolding any_two
+  both_within w v t = let b = and_parts (nat_lt w D.worlds) (nat_lt v D.worlds) t in (ltb-true w D.worlds b.0, ltb-true v D.worlds b.1)
+
+  any_two_alike : (w v : ℕ) → w < D.worlds → v < D.worlds → BisimilarWorlds D w D v
+  unfolding any_two
+  any_two_alike w v l k = (
+    any_two,
+    record {
+      agents = refl;
+      atoms = refl;
+      within = both_within;
+      truth = λ w v t. let b = both_within w v t in no_truth w b.0 ∙ sym (no_truth v b.1);
+      forth = λ a w v u t i. absurd (no_link a (w, u) i);
+      back = λ a w v x t i. absurd (no_link a (v, x) i);
+    },
+    and_whole (nat_lt w D.worlds) (nat_lt v D.worlds) (lt-ltb w D.worlds l) (lt-ltb v D.worlds k),
+  )
+
+  pub one_world : IsCanonical D → 1 < D.worlds → ⊥
+  one_world c l = let same : 0 ≡ 1 = apart_in_canonical D d c 0 1 (omega (arith, l)) l (any_two_alike 0 1 (omega (arith, l)) l) in absurd (omega (arith, same))
+
+module _ (bytes : List ℕ) (D : Kripke) (h : HasBytes bytes D) where
+  byte : (k : ℕ) → get_or (bytes_of D) k 0 ≡ get_or bytes k 0
+  byte k = ap (λ b. get_or b k 0) h.own
+
+  back : bytes ≡ bytes_of D
+  back = sym h.own
+
+  -- the sizes that the bytes tell
+  told_sizes : (get_or bytes 0 0 * 256 + get_or bytes 1 0 ≡ D.worlds) × (get_or bytes 2 0 ≡ D.agents) × (get_or bytes 3 0 * 256 + get_or bytes 4 0 ≡ D.atoms)
+  told_sizes = (
+    (let f = first_of_bytes D in omega (arith, f.0, f.1, byte 0, byte 1)),
+    sym (byte 2) ∙ agents_of_bytes D,
+    (let f = atoms_of_bytes D in omega (arith, f.0, f.1, byte 3, byte 4)),
+  )
+
+  long : length bytes ≡ 5 + D.worlds * row_size D.atoms + D.agents * (D.worlds * row_size D.worlds) + row_size D.worlds
+  long = ap length (sym h.own) ∙ length-bytes D h.valid
+
+  pub not_short : length bytes < 5 → ⊥
+  not_short l = absurd (omega (arith, l, long))
+
+  module _ (s : Sizes) (w : s.worlds ≡ get_or bytes 0 0 * 256 + get_or bytes 1 0) (a : s.agents ≡ get_or bytes 2 0) (p : s.atoms ≡ get_or bytes 3 0 * 256 + get_or bytes 4 0) where
+    worlds : s.worlds ≡ D.worlds
+    worlds = w ∙ told_sizes.0
+
+    agents : s.agents ≡ D.agents
+    agents = a ∙ told_sizes.1
+
+    atoms : s.atoms ≡ D.atoms
+    atoms = p ∙ told_sizes.2
+
+    pub are_small : AreSmall s
+    are_small = record {
+      some_world = omega (arith, worlds, h.valid.some_world);
+      worlds = omega (arith, worlds, h.small.worlds);
+      agents = omega (arith, agents, h.small.agents);
+      atoms = omega (arith, atoms, h.small.atoms);
+    }
+
+    pub are_told_apart : AreAlike s → ⊥
+    are_told_apart e = one_world D h.valid (omega (arith, agents, e.agents)) (omega (arith, atoms, e.atoms)) h.canonical (omega (arith, worlds, e.worlds))
+
+    pub are_long : length bytes ≡ whole_length s
+    are_long = long ∙ sym (λ i. 5 + worlds i * row_size (atoms i) + agents i * (worlds i * row_size (worlds i)) + row_size (worlds i))
+
+    bit_of_designated : (v : ℕ) → v < D.worlds → bit_from bytes (designated_begin s) v ≡ has_number D.designated v
+    bit_of_designated v l =
+        (λ i. bit_from (back i) (5 + worlds i * row_size (atoms i) + agents i * (worlds i * row_size (worlds i))) v) ∙ designated_bit D h.valid v l
+
+    -- some world is designated
+    pub tells_designated : told_designated bytes s ≡ [] → ⊥
+    tells_designated e =
+        let d = some_element D.designated h.valid.some_designated in
+        let l : d.0 < D.worlds = at_All (λ x. x < D.worlds) d.0 D.designated h.valid.designated_within d.1 in
+        let chosen : IsIn d.0 (told_designated bytes s) = in_numbers (bit_from bytes (designated_begin s)) s.worlds d.0 (omega (arith, l, worlds)) (bit_of_designated d.0 l ∙ to_has_number D.designated d.0 d.1) in
+        subst (IsIn d.0) e chosen
+
+    pub tells_state : IsState (told bytes s) → told bytes s ≡ D
+    tells_state t = same_from_values (told bytes s) D t h.valid (record {
+      worlds = told_worlds bytes s ∙ worlds;
+      agents = agents;
+      atoms = atoms;
+      truth = λ w p l k.
+          let in_s : w < s.worlds = omega (arith, l, told_worlds bytes s) in
+          ap (λ row. get_or row p false) (get_or-table (λ w. told_row bytes (5 + w * row_size s.atoms) s.atoms) s.worlds w [] in_s)
+          ∙ get_or-table (bit_from bytes (5 + w * row_size s.atoms)) s.atoms p false k
+          ∙ (λ i. bit_from (back i) (5 + w * row_size (atoms i)) p)
+          ∙ truth_bit D h.valid w p (omega (arith, in_s, worlds)) (omega (arith, k, atoms));
+      links = λ a w v g l k.
+          let in_w : w < s.worlds = omega (arith, l, told_worlds bytes s) in
+          let in_v : v < s.worlds = omega (arith, k, told_worlds bytes s) in
+          let place : links_begin s + a * agent_size s + w * row_size s.worlds ≡ links_begin s + (a * agent_size s + w * row_size s.worlds) = omega arith in
+          ap (λ ps. has_number (successors ps w) v) (told_links bytes s a g)
+          ∙ has_paired (λ w v. bit_from bytes (links_begin s + a * agent_size s + w * row_size s.worlds) v) s.worlds w v in_w in_v
+          ∙ ap (λ at. bit_from bytes at v) place
+          ∙ (λ i. bit_from (back i) (5 + worlds i * row_size (atoms i) + (a * (worlds i * row_size (worlds i)) + w * row_size (worlds i))) v)
+          ∙ link_bit D h.valid a w v (omega (arith, g, agents)) (omega (arith, in_w, worlds)) (omega (arith, in_v, worlds));
+      designated = λ v l.
+          let in_v : v < s.worlds = omega (arith, l, told_worlds bytes s) in
+          has_chosen (bit_from bytes (designated_begin s)) s.worlds v in_v ∙ bit_of_designated v (omega (arith, in_v, worlds));
+    })
+
+-- a contraction of what the bytes tell has other bytes only where no canonical state has these
+pub other_bytes : (bytes : List ℕ) (s : Sizes) (T C : Kripke) → AreSizes bytes s → T ≡ told bytes s → IsState T → (IsCanonical T → C ≡ T) → bytes_of C ≢ bytes → (D : Kripke) → HasBytes bytes D → ⊥
+other_bytes bytes s T C sizes e t itself apart D h =
+    let is : T ≡ D = e ∙ tells_state bytes D h s sizes.worlds sizes.agents sizes.atoms (subst IsState e t) in
+    apart (ap bytes_of (itself (subst IsCanonical (sym is) h.canonical) ∙ is) ∙ h.own)
+
+pub one_state : (bytes : List ℕ) (C D : Kripke) → IsState C → bytes_of C ≡ bytes → HasBytes bytes D → D ≡ C
+one_state bytes C D c e h = same_bytes D C h.valid c (h.own ∙ sym e)
+
+-- what a comparison of bytes says
+not_false : (b : Bool) → false ≡ not b → b ≡ true
+not_false true h = refl
+not_false false h = h
+
+pub bytes_agree : (xs ys : List ℕ) → false ≡ not (pointwise nat_eq xs ys) → xs ≡ ys
+bytes_agree xs ys h = (bytes_eq-Decides xs ys).0 (not_false (pointwise nat_eq xs ys) h)
+
+pub bytes_differ : (xs ys : List ℕ) → true ≡ not (pointwise nat_eq xs ys) → xs ≢ ys
+bytes_differ xs ys h e = false≢true (sym (h ∙ ap not ((bytes_eq-Decides xs ys).1 e)))

@@ -1,0 +1,5 @@
+pub mod PlaceLemmas
+pub mod PathLemmas
+pub mod KeyLemmas
+pub mod AddLemmas
+pub mod CaseLemmas

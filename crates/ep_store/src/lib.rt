@@ -1,0 +1,11 @@
+//! The states that a search has met, each once.
+#![tactic(auto)]
+
+mod entry;
+mod store;
+
+pub use entry::{Added, Entry, StoreError};
+pub use store::Store;
+
+#[cfg(test)]
+mod tests;

@@ -1,0 +1,17 @@
+pub mod AtomLemmas
+pub mod BindingLemmas
+pub mod CapLemmas
+pub mod CountLemmas
+pub mod DepthLemmas
+pub mod FitLemmas
+pub mod GroundLemmas
+pub mod GroupLemmas
+pub mod LawLemmas
+pub mod LookupLemmas
+pub mod NodeLemmas
+pub mod ObjectLemmas
+pub mod SizeLemmas
+pub mod TreeLemmas
+pub mod TypeOrder
+pub mod TypedLemmas
+pub mod TypingLemmas

@@ -1,0 +1,160 @@
+-- A formula that is read and has no type fault can be built where its ground form is small.
+use Rattle.std.proofs.Common.{◌≡◌, ℕ, zero, suc, ◌+◌, ◌<◌, ◌≤◌, max, Bool, true, false, ◌&&◌, nat_eq, nat_le, IsTrue, List, [], ◌∷◌, ◌++◌, Option, Some, None, IfSome, length, map, refl, ap, sym, ◌∙◌, subst, arith}
+use Rattle.std.specs.List.{list_all}
+use Rattle.std.proofs.lemmas.Bool.Decides.{nat_tests}
+use Rattle.std.proofs.lemmas.List.{length-map}
+use Rattle.ep_logic.specs.Nodes.{largest}
+use Rattle.ep_syntax.specs.Formed.{formed_layer, formed_formula, formed_group, formed_name, formed_params, is_true}
+use Rattle.ep_syntax.specs.Marks.{Mark, IsShallow, fixed}
+use Rattle.ep_syntax.specs.Spelling as spell
+use Rattle.ep_syntax.specs.declared.terminal.Terminal.{Terminal}
+use Rattle.ep_syntax.specs.declared.terminal.Terminal.TheVariants as the
+use Rattle.ep_syntax.specs.declared.tree.GroupTree.{GroupTree}
+use Rattle.ep_syntax.specs.declared.tree.GroupTree.TheVariants.{All, Members}
+use Rattle.ep_syntax.specs.declared.tree.FormulaTree.{FormulaTree, roll-FormulaTree}
+use Rattle.ep_syntax.specs.declared.tree.FormulaTree.TheOpen.{FormulaTree-F}
+use Rattle.ep_syntax.specs.declared.tree.FormulaTree.TheFolds.{map-FormulaTree, fold-roll-FormulaTree, ind-FormulaTree}
+use Rattle.ep_types.specs.Faults.{first_fault, first_row, table}
+use Rattle.ep_types.specs.Places.{Scope, Uses, with_params, both, at, each, Group, Knowledge}
+use Rattle.ep_types.specs.Uses.{param_uses, agent_uses, group_uses, knower_uses, knowers_uses, production, formula_uses}
+use Rattle.ep_universe.specs.Sizes.{nesting, nesting_layer, is_whole, whole_layer, has_member}
+use Rattle.ep_universe.proofs.TreeLemmas.{nesting-roll, whole-roll}
+use Rattle.ep_universe.proofs.TypedLemmas.{both-none, located-none, row-none}
+
+both_left : (a b : Bool) → (a && b) ≡ true → a ≡ true
+both_left true b h = refl
+both_left false b h = h
+
+both_right : (a b : Bool) → (a && b) ≡ true → b ≡ true
+both_right true b h = h
+both_right false b h = absurd (cc)
+
+-- ---- two parts and a member
+
+some : (n : ℕ) → nat_eq n 0 ≡ false → nat_le 1 n ≡ true
+some n h = grind (arith, nat_tests)
+
+group_some : (g : GroupTree) (s : Scope) → first_fault (group_uses g s) ≡ None → has_member g ≡ true
+group_some (All token) s h = refl
+group_some (Members token xs) s h =
+    let parts = both-none (at token (Group (length xs))) (agent_uses xs s) h in
+    let row = row-none (nat_eq (length xs) 0) _ _ (located-none token (first_row (table (Group (length xs)))) parts.0) in
+    some (length xs) row.0
+
+abbrev IsWhole : FormulaTree → Type 0
+IsWhole f = (s : Scope) → formed_formula f ≡ true → first_fault (formula_uses f s) ≡ None → is_whole f ≡ true
+
+parts_whole : (s : Scope) (fs : List ((f : FormulaTree) × IsWhole f)) → list_all is_true (map formed_formula (map (λ e. e.0) fs)) ≡ true →
+    first_fault (each (λ part. part s) (map formula_uses (map (λ e. e.0) fs))) ≡ None → list_all (λ b. b) (map is_whole (map (λ e. e.0) fs)) ≡ true
+parts_whole s [] w h = refl
+parts_whole s (f ∷ fs) w h =
+    let parts = both-none (formula_uses f.0 s) (each (λ part. part s) (map formula_uses (map (λ e. e.0) fs))) h in
+    (λ i. f.1 s (both_left (formed_formula f.0) (list_all is_true (map formed_formula (map (λ e. e.0) fs))) w) parts.0 i
+    && parts_whole s fs (both_right (formed_formula f.0) (list_all is_true (map formed_formula (map (λ e. e.0) fs))) w) parts.1 i)
+
+many : (fs : List ((f : FormulaTree) × IsWhole f)) → nat_le 2 (length (map formed_formula (map (λ e. e.0) fs))) ≡ true → nat_le 2 (length (map is_whole (map (λ e. e.0) fs))) ≡ true
+many fs h =
+    ap (nat_le 2) (length-map (map (λ e. e.0) fs) is_whole ∙ sym (length-map (map (λ e. e.0) fs) formed_formula)) ∙ h
+
+whole_level : (s : Scope) (y : FormulaTree-F ((f : FormulaTree) × IsWhole f)) →
+    formed_layer (map-FormulaTree FormulaTree Bool formed_formula (map-FormulaTree ((f : FormulaTree) × IsWhole f) FormulaTree (λ e. e.0) y)) ≡ true →
+    first_fault (production (map-FormulaTree FormulaTree (Scope → Uses) formula_uses (map-FormulaTree ((f : FormulaTree) × IsWhole f) FormulaTree (λ e. e.0) y)) s) ≡ None →
+    whole_layer (map-FormulaTree FormulaTree Bool is_whole (map-FormulaTree ((f : FormulaTree) × IsWhole f) FormulaTree (λ e. e.0) y)) ≡ true
+whole_level s (FormulaTree-F.True token) w h = refl
+whole_level s (FormulaTree-F.False token) w h = refl
+whole_level s (FormulaTree-F.Atom a) w h = refl
+whole_level s (FormulaTree-F.Not token f) w h = f.1 s w h
+whole_level s (FormulaTree-F.Knows token x f) w h =
+    let parts = both-none (knower_uses token x s) (formula_uses f.0 s) h in
+    f.1 s (both_right (formed_name x) (formed_formula f.0) w) parts.1
+whole_level s (FormulaTree-F.Common token g f) w h =
+    let parts = both-none (knowers_uses token g s) (formula_uses f.0 s) h in
+    let knowers = both-none (at token (Knowledge s.knowledge)) (group_uses g s) parts.0 in
+    (λ i. group_some g s knowers.1 i && f.1 s (both_right (formed_group g) (formed_formula f.0) w) parts.1 i)
+whole_level s (FormulaTree-F.Forall token ps f) w h =
+    let parts = both-none (param_uses 0 ps s) (formula_uses f.0 (with_params s ps)) h in
+    f.1 (with_params s ps) (both_right (formed_params ps) (formed_formula f.0) w) parts.1
+whole_level s (FormulaTree-F.Exists token ps f) w h =
+    let parts = both-none (param_uses 0 ps s) (formula_uses f.0 (with_params s ps)) h in
+    f.1 (with_params s ps) (both_right (formed_params ps) (formed_formula f.0) w) parts.1
+whole_level s (FormulaTree-F.Equal token x y) w h = refl
+whole_level s (FormulaTree-F.Paren token f) w h = f.1 s w h
+whole_level s (FormulaTree-F.And token fs) w h =
+    let n = nat_le 2 (length (map formed_formula (map (λ e. e.0) fs))) in
+    let l = list_all is_true (map formed_formula (map (λ e. e.0) fs)) in
+    (λ i. many fs (both_left n l w) i && parts_whole s fs (both_right n l w) h i)
+whole_level s (FormulaTree-F.Or token fs) w h =
+    let n = nat_le 2 (length (map formed_formula (map (λ e. e.0) fs))) in
+    let l = list_all is_true (map formed_formula (map (λ e. e.0) fs)) in
+    (λ i. many fs (both_left n l w) i && parts_whole s fs (both_right n l w) h i)
+
+whole_rolled : (x : FormulaTree-F FormulaTree) (y : FormulaTree-F ((f : FormulaTree) × IsWhole f)) → map-FormulaTree ((f : FormulaTree) × IsWhole f) FormulaTree (λ e. e.0) y ≡ x → IsWhole (roll-FormulaTree x)
+whole_rolled x y e = subst (λ (x : FormulaTree-F FormulaTree). IsWhole (roll-FormulaTree x)) e (λ s w h.
+    let z = map-FormulaTree ((f : FormulaTree) × IsWhole f) FormulaTree (λ e. e.0) y in
+    whole-roll z
+    ∙ whole_level s y (sym (fold-roll-FormulaTree Bool formed_layer z) ∙ w) (sym (ap (λ u. first_fault (u s)) (fold-roll-FormulaTree (Scope → Uses) production z)) ∙ h))
+
+pub whole : (f : FormulaTree) → IsWhole f
+whole = ind-FormulaTree IsWhole whole_rolled
+
+-- ---- nesting
+
+front : (xs ys : List Mark) → IsShallow (xs ++ ys) → IsShallow xs
+front [] ys h = tt
+front (x ∷ xs) ys h = (h.0, front xs ys h.1)
+
+behind : (xs ys : List Mark) → IsShallow (xs ++ ys) → IsShallow ys
+behind [] ys h = h
+behind (x ∷ xs) ys h = behind xs ys h.1
+
+abbrev IsNested : FormulaTree → Type 0
+IsNested f = (k : ℕ) → IsShallow (spell.formula_at f k) → nesting f + k ≤ 65
+
+behind_nested : (t : Terminal) (k : ℕ) (fs : List ((f : FormulaTree) × IsNested f)) → k ≤ 65 → IsShallow (spell.behind t (spell.parts_at k (map spell.formula_at (map (λ e. e.0) fs)))) →
+    largest (map nesting (map (λ e. e.0) fs)) + k ≤ 65
+behind_nested t k [] l h = omega arith
+behind_nested t k (f ∷ fs) l h =
+    let rest = spell.behind t (spell.parts_at k (map spell.formula_at (map (λ e. e.0) fs))) in
+    let here = f.1 k (front (spell.formula_at f.0 k) rest h.1) in
+    let later = behind_nested t k fs l (behind (spell.formula_at f.0 k) rest h.1) in
+    omega (arith, here, later)
+
+between_nested : (t : Terminal) (k : ℕ) (fs : List ((f : FormulaTree) × IsNested f)) → k ≤ 65 → IsShallow (spell.between t (spell.parts_at k (map spell.formula_at (map (λ e. e.0) fs)))) →
+    largest (map nesting (map (λ e. e.0) fs)) + k ≤ 65
+between_nested t k [] l h = omega arith
+between_nested t k (f ∷ fs) l h =
+    let rest = spell.behind t (spell.parts_at k (map spell.formula_at (map (λ e. e.0) fs))) in
+    let here = f.1 k (front (spell.formula_at f.0 k) rest h) in
+    let later = behind_nested t k fs l (behind (spell.formula_at f.0 k) rest h) in
+    omega (arith, here, later)
+
+nested_level : (k : ℕ) (y : FormulaTree-F ((f : FormulaTree) × IsNested f)) →
+    IsShallow (spell.production (map-FormulaTree FormulaTree (ℕ → List Mark) spell.formula_at (map-FormulaTree ((f : FormulaTree) × IsNested f) FormulaTree (λ e. e.0) y)) k) →
+    nesting_layer (map-FormulaTree FormulaTree ℕ nesting (map-FormulaTree ((f : FormulaTree) × IsNested f) FormulaTree (λ e. e.0) y)) + k ≤ 65
+nested_level k (FormulaTree-F.True token) h = omega (arith, h.0)
+nested_level k (FormulaTree-F.False token) h = omega (arith, h.0)
+nested_level k (FormulaTree-F.Atom a) h = omega (arith, h.0)
+nested_level k (FormulaTree-F.Not token f) h = let inner = f.1 (suc k) h.1 in omega (arith, inner)
+nested_level k (FormulaTree-F.Knows token x f) h = let inner = f.1 (suc k) h.1.1 in omega (arith, inner)
+nested_level k (FormulaTree-F.Common token g f) h = let inner = f.1 (suc k) (behind (spell.group g) (spell.formula_at f.0 (suc k)) h.1) in omega (arith, inner)
+nested_level k (FormulaTree-F.Forall token ps f) h = let inner = f.1 (suc k) (behind (spell.params ps) (fixed the.CloseParen ∷ spell.formula_at f.0 (suc k)) h.1.1).1 in omega (arith, inner)
+nested_level k (FormulaTree-F.Exists token ps f) h = let inner = f.1 (suc k) (behind (spell.params ps) (fixed the.CloseParen ∷ spell.formula_at f.0 (suc k)) h.1.1).1 in omega (arith, inner)
+nested_level k (FormulaTree-F.Equal token x y) h = omega (arith, h.0)
+nested_level k (FormulaTree-F.Paren token f) h = let inner = f.1 (suc k) (front (spell.formula_at f.0 (suc k)) (fixed the.CloseParen ∷ []) h.1) in omega (arith, inner)
+nested_level k (FormulaTree-F.And token fs) h =
+    let here : k ≤ 64 = h.0 in
+    let parts = between_nested the.And (suc k) fs (omega arith) (front (spell.between the.And (spell.parts_at (suc k) (map spell.formula_at (map (λ e. e.0) fs)))) (fixed the.CloseParen ∷ []) h.1) in
+    omega (arith, parts)
+nested_level k (FormulaTree-F.Or token fs) h =
+    let here : k ≤ 64 = h.0 in
+    let parts = between_nested the.Or (suc k) fs (omega arith) (front (spell.between the.Or (spell.parts_at (suc k) (map spell.formula_at (map (λ e. e.0) fs)))) (fixed the.CloseParen ∷ []) h.1) in
+    omega (arith, parts)
+
+nested_rolled : (x : FormulaTree-F FormulaTree) (y : FormulaTree-F ((f : FormulaTree) × IsNested f)) → map-FormulaTree ((f : FormulaTree) × IsNested f) FormulaTree (λ e. e.0) y ≡ x → IsNested (roll-FormulaTree x)
+nested_rolled x y e = subst (λ (x : FormulaTree-F FormulaTree). IsNested (roll-FormulaTree x)) e (λ k h.
+    let z = map-FormulaTree ((f : FormulaTree) × IsNested f) FormulaTree (λ e. e.0) y in
+    let n = nested_level k y (subst IsShallow (ap (λ u. u k) (fold-roll-FormulaTree (ℕ → List Mark) spell.production z)) h) in
+    omega (arith, nesting-roll z, n))
+
+pub nested : (f : FormulaTree) → IsNested f
+nested = ind-FormulaTree IsNested nested_rolled

@@ -1,0 +1,20 @@
+use Rattle.std.proofs.Common.{◌≡◌, ◌<◌, false, true, drop, length, map, IsTrue, ap, sym, ◌∙◌, subst}
+use Rattle.ep_logic.specs.AgentSets.{is_nobody}
+use Rattle.ep_theory.specs.Numbers.{has_number}
+use Rattle.ep_universe.specs.Limits.{IsWithin}
+use Rattle.ep_universe.specs.Objects.{agent_at, agents_of, eight}
+use Rattle.ep_universe.specs.Sizes.{has_member}
+use Rattle.ep_universe.proofs.GroupLemmas.{members-some, members-within}
+use Rattle.ep_universe.proofs.universe.Universe.group_of.Goals as goal
+
+pub returns-in-Members-clause-some : goal.returns-in-Members-clause-some
+returns-in-Members-clause-some c h =
+    let within = subst IsWithin c.self.view_is c.self.invariant.0 in
+    ap is_nobody (c.members.ensures ∙ ap (λ z. eight (has_number (map (agent_at c.args.self.now c.args.binding.now) z))) c.as_slice-in-Members.ensures)
+    ∙ members-some c.args.self.now c.args.binding.now c.in-Members.token c.in-Members.names within (subst (λ g. IsTrue (has_member g)) c.in-Members.is h)
+
+pub returns-in-Members-clause-within : goal.returns-in-Members-clause-within
+returns-in-Members-clause-within c =
+    let within = subst IsWithin c.self.view_is c.self.invariant.0 in
+    ap (λ z. is_nobody (drop (length (agents_of c.args.self.now)) z)) c.members.ensures
+    ∙ members-within c.args.self.now c.args.binding.now c.as_slice-in-Members.result.now within

@@ -1,0 +1,9 @@
+pub mod Atoms
+pub mod Counts
+pub mod FirstToken
+pub mod FormulaFaults
+pub mod Formulas
+pub mod Limits
+pub mod Objects
+pub mod Sizes
+pub mod Typing

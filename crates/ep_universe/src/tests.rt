@@ -1,0 +1,153 @@
+use crate::atoms::{atom_count, atoms_of};
+use crate::objects::{candidates, objects_of};
+use crate::{FormulaFault, Universe, ground_formula};
+use ep_lex::tokens;
+use ep_logic::{AgentId, AtomId, Formula, Node};
+use ep_syntax::{read_formula, read_task};
+use ep_types::{TypeFault, Typed, check};
+use std::alloc::Global;
+use std::process::Abort;
+use std::test::Fail;
+
+const FAMILY: &str = "task family; types { child < agent; pet < object; ghost < object; } \
+    objects { ann : agent; kid : child; rex : pet; } fluents { p; wet(child); likes(agent, object); } \
+    init { world o { } designated { o } } action go(a : agent, c : child, x : object) { announce p; } goal true;";
+
+fn typed(rt: &impl Abort, alloc: Global, text: &str) -> Result<Typed, Fail> {
+    let bytes = text.as_bytes();
+    assert!(rt; bytes.len() <= 1_048_576);
+    let found = tokens(alloc, bytes)?;
+    let tree = read_task(alloc, bytes, &found)?;
+    Ok(check(alloc, tree)?)
+}
+
+fn universe<'a>(rt: &impl Abort, alloc: Global, typed: &'a Typed) -> Result<Universe<'a>, Fail> {
+    let fluents = typed.tree().fluents.as_slice().len();
+    assert!(rt; typed.object_count() <= 64 && fluents <= 262_144);
+    let agents = objects_of(alloc, typed, b"agent")?.as_slice().len();
+    assert!(rt; 0 < agents && agents <= 8);
+    assert!(rt; atom_count(alloc, typed)? <= 256);
+    Ok(Universe::new(alloc, typed)?)
+}
+
+fn form(
+    rt: &impl Abort,
+    alloc: Global,
+    universe: &Universe,
+    text: &str,
+) -> Result<Result<Formula, FormulaFault>, Fail> {
+    let bytes = text.as_bytes();
+    assert!(rt; bytes.len() <= 1_048_576);
+    let found = tokens(alloc, bytes)?;
+    let tree = read_formula(alloc, bytes, &found)?;
+    Ok(ground_formula(alloc, universe, &tree))
+}
+
+// A parameter takes the objects of its type and of those below it.
+#[test]
+fn objects_of_subtypes(rt: HostRuntime) -> Result<(), Fail> {
+    let typed = typed(&rt, rt.alloc(), FAMILY)?;
+    assert!(rt; typed.object_count() <= 64);
+    let schema = typed.tree().schemas.as_slice().first().ok_or("no schema")?;
+    let lists = candidates(rt.alloc(), &typed, schema.params.as_slice())?;
+    let rows: [&[u32]; 3] = [&[0, 1], &[1], &[0, 1, 2]];
+    for (list, row) in lists.as_slice().iter().zip(rows) {
+        assert_eq!(rt; list.as_slice(), row);
+    }
+    Ok(())
+}
+
+#[test]
+fn order_of_ground_atoms(rt: HostRuntime) -> Result<(), Fail> {
+    let typed = typed(&rt, rt.alloc(), FAMILY)?;
+    assert!(rt; typed.object_count() <= 64);
+    let atoms = atoms_of(rt.alloc(), &typed)?;
+    let rows: [(usize, &[u32]); 8] = [
+        (0, &[]),
+        (1, &[1]),
+        (2, &[0, 0]),
+        (2, &[0, 1]),
+        (2, &[0, 2]),
+        (2, &[1, 0]),
+        (2, &[1, 1]),
+        (2, &[1, 2]),
+    ];
+    assert_eq!(rt; atoms.as_slice().len(), 8);
+    for (atom, (fluent, objects)) in atoms.as_slice().iter().zip(rows) {
+        assert_eq!(rt; atom.fluent, fluent);
+        assert_eq!(rt; atom.objects.as_slice(), objects);
+    }
+    Ok(())
+}
+
+// Over no binding a quantifier is a constant, and over one binding the one instance.
+#[test]
+fn quantifiers_over_few(rt: HostRuntime) -> Result<(), Fail> {
+    let typed = typed(&rt, rt.alloc(), FAMILY)?;
+    let universe = universe(&rt, rt.alloc(), &typed)?;
+    let none = form(&rt, rt.alloc(), &universe, "exists (g : ghost) p")??;
+    assert!(rt; matches!(none.node(), Node::False));
+    let all = form(&rt, rt.alloc(), &universe, "forall (g : ghost) p")??;
+    assert!(rt; matches!(all.node(), Node::True));
+    let one = form(&rt, rt.alloc(), &universe, "exists (c : child) (wet(c))")??;
+    assert!(rt; matches!(one.node(), Node::Atom(AtomId { n: 1 })));
+    Ok(())
+}
+
+#[test]
+fn agents_and_groups(rt: HostRuntime) -> Result<(), Fail> {
+    let typed = typed(&rt, rt.alloc(), FAMILY)?;
+    let universe = universe(&rt, rt.alloc(), &typed)?;
+    let knows = form(&rt, rt.alloc(), &universe, "knows kid likes(kid, rex)")??;
+    assert!(rt; matches!(knows.node(), Node::Knows(AgentId { n: 1 }, _)));
+    let common = form(&rt, rt.alloc(), &universe, "common { kid } (ann = kid)")??;
+    let Node::Common(group, inner) = common.node() else {
+        return Err("no group".into());
+    };
+    assert!(rt; group.has(AgentId { n: 1 }) && !group.has(AgentId { n: 0 }));
+    assert!(rt; matches!(inner.get(), Node::False));
+    let fault = form(&rt, rt.alloc(), &universe, "knows rex p")?.err();
+    let wanted = FormulaFault::Typing {
+        fault: TypeFault::NotAgent,
+        token: 1,
+    };
+    assert_eq!(rt; fault, Some(wanted));
+    Ok(())
+}
+
+const LARGE: &str = "task large; types { big < object; small < big; } objects { ann : agent; \
+    o1, o2, o3, o4, o5, o6, o7, o8, o9, o10, o11, o12, o13, o14, o15 : small; o16 : big; } \
+    fluents { p; } init { world o { } designated { o } } goal true;";
+
+const MOST: &str = "forall (a : small) forall (b : big) forall (c : big) forall (d : big) p";
+
+// 1 + 15 * (1 + 16 * (1 + 16 * (1 + 16))) nodes, and one more.
+#[test]
+fn most_nodes(rt: HostRuntime) -> Result<(), Fail> {
+    let typed = typed(&rt, rt.alloc(), LARGE)?;
+    let universe = universe(&rt, rt.alloc(), &typed)?;
+    let most = form(&rt, rt.alloc(), &universe, MOST)??;
+    assert_eq!(rt; most.nodes(), 65_536);
+    assert_eq!(rt; most.depth(), 5);
+    let text = format!(in rt.alloc(); "not {MOST}")?;
+    let more = form(&rt, rt.alloc(), &universe, text.as_str())?.err();
+    assert_eq!(rt; more, Some(FormulaFault::TooLarge { token: 0 }));
+    Ok(())
+}
+
+const MANY: &str = " task many; objects { ann : agent; o1, o2, o3, o4, o5, o6, o7, o8, o9, o10, \
+    o11, o12, o13, o14, o15, o16, o17, o18, o19, o20, o21, o22, o23, o24, o25, o26, o27, o28, \
+    o29, o30, o31, o32, o33, o34, o35, o36, o37, o38, o39, o40, o41, o42, o43, o44, o45, o46, \
+    o47, o48, o49, o50, o51, o52, o53, o54, o55, o56, o57, o58, o59, o60, o61, o62, o63 : \
+    object; } fluents { p; q(object, object, object, object, object, object); } init { world o { \
+    } designated { o } } goal true;";
+
+// 64 objects at each of six places, told before any atom is made.
+#[test]
+fn count_of_many_atoms(rt: HostRuntime) -> Result<(), Fail> {
+    let typed = typed(&rt, rt.alloc(), MANY)?;
+    let fluents = typed.tree().fluents.as_slice().len();
+    assert!(rt; typed.object_count() <= 64 && fluents <= 262_144);
+    assert_eq!(rt; atom_count(rt.alloc(), &typed)?, 68_719_476_737);
+    Ok(())
+}

@@ -1,26 +1,32 @@
 -- From the answer of a step to the answer of its command, and from there to the answer of the words.
-use Rattle.std.proofs.Common.{◌≡◌, ◌⊎◌, ℕ, List, IfSome, Option, Some, None, MatchOption, inl, inr, sym, subst}
-use Rattle.ep_io.specs.Library.{LibraryState, FileMap, file_of}
+use Rattle.std.proofs.Common.{◌≡◌, ℕ, List, [], IfSome, Option, Some, None, MatchOption, inl, inr, refl, sym, subst}
+use Rattle.ep_logic.specs.declared.formula.Node.{Node}
+use Rattle.ep_theory.specs.Kripke.{Kripke}
+use Rattle.ep_io.specs.Library.{LibraryState, FileMap}
 use Rattle.ep_syntax.specs.declared.tree.TaskTree.{TaskTree}
 use Rattle.ep_lex.specs.Tokens.{Lexed}
 use Rattle.ep_types.specs.Faults.{first_fault}
 use Rattle.ep_types.specs.Tasks.{task_uses}
 use Rattle.ep_types.specs.declared.fault.TypeFault.{TypeFault}
 use Rattle.ep_cli.specs.declared.answer.Answer.{Answer}
-use Rattle.ep_cli.specs.declared.answer.Answer.TheVariants.{Refused}
+use Rattle.ep_cli.specs.declared.answer.Answer.TheVariants.{Refused, NoneTo}
 use Rattle.ep_cli.specs.declared.answer.Cause.TheVariants.{NoSuchFile, StrayByte, TooManyTokens, Syntax, TooDeep, Mistyped, NotBuilt}
 use Rattle.ep_cli.specs.declared.answer.Stop.{Stop}
 use Rattle.ep_cli.specs.declared.answer.Stop.TheVariants.{Told, OutOfMemory}
 use Rattle.ep_cli.specs.declared.answer.Subject.{Subject}
 use Rattle.ep_cli.specs.declared.answer.Subject.TheVariants.{Words, Task}
 use Rattle.ep_cli.specs.declared.status.Status.{Status}
-use Rattle.ep_cli.specs.Answer.{answer_status, answer_text}
+use Rattle.ep_cli.specs.declared.status.Status.TheVariants as done
+use Rattle.ep_cli.specs.Answer.{answer_status, answer_text, plan_text}
 use Rattle.ep_cli.specs.Built.{Command, PlanAtZero, IsCommand}
+use Rattle.ep_cli.specs.Plain.{IsPlainTask}
+use Rattle.ep_cli.specs.Planning.{IsMet}
+use Rattle.ep_cli.specs.Planning as plan
 use Rattle.ep_cli.specs.Run.{IsAnswerOf, CommandNames, IsCommandAnswer, IsAnswer}
 use Rattle.ep_cli.specs.Served.{Outcome, Answers, Sized, TaskRead, Planned, answers, place_at}
 use Rattle.ep_cli.specs.Steps.{OnlyFile, IsFetched, IsTaskOf, StopsAtFetch, StopsBy, StopsCommand, nothing_behind}
 use Rattle.ep_cli.proofs.Steps.{Fetched-weaker, TaskRead-weaker, TaskRead-behind}
-use Rattle.ep_cli.proofs.Told.{IsBehind, refusal_is_behind}
+use Rattle.ep_cli.proofs.Told.{IsBehind, refusal_is_behind, answer_is_behind}
 
 some_map : {A : Type 0} {P Q : A → Type 0} (o : Option A) → ((x : A) → P x → Q x) → IfSome o P → IfSome o Q
 some_map None f h = h
@@ -108,7 +114,25 @@ stops_at_read old new file bytes (Told answer) fetched h =
 stops_at_read old new file bytes OutOfMemory fetched h = h
 
 planned_is_behind : (tree : TaskTree) (status : Status) (text : List ℕ) → Planned tree (Answers status text) → IsBehind status text
-planned_is_behind tree status text e = refusal_is_behind status text NotBuilt tt e
+unfolding Planned
+planned_is_behind tree status text (inl p) = refusal_is_behind status text NotBuilt tt p.1
+planned_is_behind tree status text (inr p) = answer_is_behind status text tree.name.text p.2 p.5
+
+-- ---- the answer of planning
+
+pub planned_not_built : (tree : TaskTree) → ((S : Kripke) (goal : Node) → IsPlainTask tree S goal → ⊥) → Planned tree (answers (Refused Task NotBuilt))
+unfolding Planned
+planned_not_built tree h = inl (h, refl)
+
+pub planned_none : (tree : TaskTree) (S : Kripke) (goal : Node) → IsPlainTask tree S goal → (IsMet S goal → ⊥) → Planned tree (answers (NoneTo 0))
+unfolding Planned
+planned_none tree S goal is unmet = inr (S, goal, plan.NoneTo 0, is, (refl, unmet), refl)
+
+pub planned_shortest : (tree : TaskTree) (S : Kripke) (goal : Node) (name : List ℕ) (actions : List (List ℕ)) → IsPlainTask tree S goal → IsMet S goal
+    → name ≡ tree.name.text → actions ≡ [] → Planned tree (Answers done.Ok (plan_text name actions))
+unfolding Planned
+planned_shortest tree S goal name actions is met e none =
+    inr (S, goal, plan.Shortest [], is, (refl, met), λ i. Answers done.Ok (plan_text (e i) (none i)))
 
 pub ends_planned : (old new : LibraryState) (file bytes : List ℕ) (tree : TaskTree) (answer : Answer)
     → IsFetched old file bytes → IsTaskOf bytes tree → Planned tree (answers answer)

@@ -1,5 +1,5 @@
 -- How a step of the work goes on, and how it ends the work.
-use Rattle.std.proofs.Common.{◌≡◌, ◌⊎◌, ℕ, List, Option, Some, None, MatchOption, inl, inr, sym, subst}
+use Rattle.std.proofs.Common.{◌≡◌, ℕ, List, Option, Some, None, MatchOption, inl, inr, sym, subst}
 use Rattle.ep_lex.specs.Tokens.{Lexed, spellings}
 use Rattle.ep_syntax.specs.Grammar.{Grammar, tasks, Reads}
 use Rattle.ep_syntax.specs.declared.tree.TaskTree.{TaskTree}
@@ -8,7 +8,6 @@ use Rattle.ep_types.specs.Faults.{first_fault}
 use Rattle.ep_types.specs.Tasks.{HasNoFault, task_uses}
 use Rattle.ep_types.specs.declared.fault.TypeFault.{TypeFault}
 use Rattle.ep_io.specs.Library.{FileMap, file_of}
-use Rattle.ep_cli.specs.declared.answer.Answer.{Answer}
 use Rattle.ep_cli.specs.declared.answer.Answer.TheVariants.{Refused}
 use Rattle.ep_cli.specs.declared.answer.Cause.TheVariants.{NoSuchFile, Mistyped}
 use Rattle.ep_cli.specs.declared.answer.Stop.{Stop}

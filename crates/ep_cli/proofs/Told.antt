@@ -1,5 +1,5 @@
 -- What is told behind a fetch is not what a fetch tells.
-use Rattle.std.proofs.Common.{◌≡◌, ◌≢◌, ℕ, List, [], ◌∷◌, ◌++◌, Bool, false, true, drop, get_or, eqb, codes, refl, ap, ◌∙◌, arith, rules}
+use Rattle.std.proofs.Common.{◌≡◌, ◌≢◌, ℕ, List, [], ◌∷◌, ◌++◌, false, true, drop, get_or, eqb, refl, ap, arith, rules}
 use Rattle.ep_types.specs.declared.fault.TypeFault.TheVariants as type_fault
 use Rattle.ep_cli.specs.declared.answer.Answer.TheVariants.{Refused}
 use Rattle.ep_cli.specs.declared.answer.Cause.{Cause}
@@ -8,8 +8,10 @@ use Rattle.ep_cli.specs.declared.answer.Subject.{Subject}
 use Rattle.ep_cli.specs.declared.answer.Subject.TheVariants.{Words, Task}
 use Rattle.ep_cli.specs.declared.status.Status.{Status}
 use Rattle.ep_cli.specs.declared.status.Status.TheVariants.{ReadFault}
-use Rattle.ep_cli.specs.Answer.{answer_text, answer_status, cause_text}
-use Rattle.ep_cli.specs.Served.{Answers, answers}
+use Rattle.ep_cli.specs.declared.status.Status.TheVariants as done
+use Rattle.ep_cli.specs.Answer.{answer_text, answer_status, cause_text, plan_text, none_text}
+use Rattle.ep_cli.specs.Planning.{PlanAnswer, Shortest, NoneTo}
+use Rattle.ep_cli.specs.Served.{Answers, answers, told}
 use Rattle.ep_cli.specs.Status.{IsWritten}
 
 -- a status and a text that no fetch gives
@@ -99,3 +101,25 @@ refusal_is_behind status text c b e =
     let s : status ≡ answer_status (Refused Task c) = cc in
     let t : text ≡ answer_text (Refused Task c) = cc in
     rw (s, t) (task_refusal c b)
+
+-- ---- answers of planning
+
+pub answer_is_behind : (status : Status) (text name : List ℕ) (answer : PlanAnswer) → Answers status text ≡ told name answer → IsBehind status text
+answer_is_behind status text name (Shortest plan) e =
+    let s : status ≡ done.Ok = cc in
+    let t : text ≡ plan_text name plan = cc in
+    rw (s, t) (record {
+      written = tt;
+      no_fault = λ f. cc;
+      not_missing = λ s f. differ 0 (plan_text name plan) (answer_text (Refused s NoSuchFile)) refl f;
+      not_long = λ s f. differ 0 (plan_text name plan) (answer_text (Refused s TooLong)) refl f;
+    })
+answer_is_behind status text name (NoneTo depth) e =
+    let s : status ≡ done.No = cc in
+    let t : text ≡ none_text depth = cc in
+    rw (s, t) (record {
+      written = tt;
+      no_fault = λ f. cc;
+      not_missing = λ s f. differ 0 (none_text depth) (answer_text (Refused s NoSuchFile)) refl f;
+      not_long = λ s f. differ 0 (none_text depth) (answer_text (Refused s TooLong)) refl f;
+    })

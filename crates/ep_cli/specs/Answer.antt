@@ -1,8 +1,9 @@
 -- The status and the text of each answer. A text ends with a line feed.
-use Rattle.std.specs.Prelude.{ℕ, List, [], ◌∷◌, ◌++◌, codes}
+use Rattle.std.specs.Prelude.{ℕ, List, [], ◌∷◌, ◌++◌, length, map, string_bytes, codes}
+use Rattle.std.specs.List.{flat_map}
 use Rattle.std.specs.Fmt.{decimal}
 use Rattle.ep_cli.specs.declared.answer.Answer.{Answer}
-use Rattle.ep_cli.specs.declared.answer.Answer.TheVariants.{Refused, Unreadable}
+use Rattle.ep_cli.specs.declared.answer.Answer.TheVariants.{Refused, Unreadable, Shortest, NoneTo}
 use Rattle.ep_cli.specs.declared.answer.Cause.{Cause}
 use Rattle.ep_cli.specs.declared.answer.Cause.TheVariants.{NoSuchFile, TooLong, StrayByte, TooManyTokens, Syntax, TooDeep, Mistyped, NotBuilt}
 use Rattle.ep_cli.specs.declared.answer.Place.{Place}
@@ -41,11 +42,29 @@ cause_text (TooDeep place) = codes "too deep at " ++ place_text place
 cause_text (Mistyped fault place) = fault_text fault ++ codes " at " ++ place_text place
 cause_text NotBuilt = codes "not built"
 
+abbrev pub line : List ℕ → List ℕ
+line text = text ++ 10 ∷ []
+
+abbrev pub lines : List (List ℕ) → List ℕ
+lines texts = flat_map line texts
+
+-- the text of a shortest plan for the task with this name, by the printed names of its actions
+abbrev pub plan_text : List ℕ → List (List ℕ) → List ℕ
+plan_text task actions =
+    line (codes "plan 1") ++ line (codes "task " ++ task) ++ line (codes "# shortest") ++ line (codes "actions " ++ decimal (length actions)) ++ lines actions ++ line (codes "end")
+
+abbrev pub none_text : ℕ → List ℕ
+none_text depth = line (codes "none to " ++ decimal depth)
+
 abbrev pub answer_text : Answer → List ℕ
 answer_text (Refused subject cause) =
     codes "refused: " ++ subject_text subject ++ codes ": " ++ cause_text cause ++ 10 ∷ []
 answer_text (Unreadable subject) = codes "fault: " ++ subject_text subject ++ codes " cannot be read" ++ 10 ∷ []
+answer_text (Shortest task actions) = plan_text (string_bytes task) (map string_bytes actions.items)
+answer_text (NoneTo depth) = none_text depth
 
 abbrev pub answer_status : Answer → Status
 answer_status (Refused subject cause) = status.Refused
 answer_status (Unreadable subject) = status.ReadFault
+answer_status (Shortest task actions) = status.Ok
+answer_status (NoneTo depth) = status.No

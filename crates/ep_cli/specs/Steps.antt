@@ -1,6 +1,6 @@
 -- What a step of the work hands on, or how it ends the work.
 use Rattle.std.specs.Prelude.{◌≡◌, ◌≤◌, ℕ, List, ⊤, length, IfSome, Some}
-use Rattle.ep_lex.specs.Tokens.{Lexed, AreTokens, spellings}
+use Rattle.ep_lex.specs.Tokens.{Lexed, spellings}
 use Rattle.ep_syntax.specs.Grammar.{tasks, Reads}
 use Rattle.ep_syntax.specs.declared.tree.TaskTree.{TaskTree}
 use Rattle.ep_types.specs.Tasks.{HasNoFault}
@@ -10,7 +10,7 @@ use Rattle.ep_cli.specs.declared.answer.Stop.TheVariants.{Told, OutOfMemory}
 use Rattle.ep_cli.specs.declared.answer.Subject.{Subject}
 use Rattle.ep_cli.specs.Answer.{answer_status, answer_text}
 use Rattle.ep_cli.specs.Built.{Command}
-use Rattle.ep_cli.specs.Served.{Outcome, AreLexed, Fetched, TaskRead, answers, file_limit}
+use Rattle.ep_cli.specs.Served.{Outcome, AreLexed, Fetched, answers, file_limit}
 use Rattle.ep_cli.specs.Run.{IsAnswerOf, IsCommandAnswer}
 
 -- the work may end so, or memory is wanting

@@ -1,8 +1,9 @@
 // What is answered, as a status and a text.
-ghost use Rattle.std.specs.Prelude.{◌≡◌, Some};
-ghost use Rattle.ep_cli.specs.Answer.{subject_text, place_text, fault_text, cause_text, answer_text, answer_status};
+ghost use Rattle.std.specs.Prelude.{◌≡◌, Some, map, string_bytes};
+ghost use Rattle.ep_cli.specs.Answer.{subject_text, place_text, fault_text, cause_text, lines, answer_text, answer_status};
 
 use crate::Status;
+use ep_logic::OutOfMemory;
 use ep_types::TypeFault;
 use std::fmt;
 
@@ -91,6 +92,10 @@ pub enum Answer {
     Refused(Subject, Cause),
     /// The library failed on this file.
     Unreadable(Subject),
+    /// A plan for the task with this name, by the printed names of its actions, and none is shorter.
+    Shortest { task: String, actions: Vec<String> },
+    /// No plan has at most so many actions.
+    NoneTo { depth: u32 },
 }
 
 impl Answer {
@@ -100,6 +105,8 @@ impl Answer {
         match self {
             Answer::Refused(..) => Status::Refused,
             Answer::Unreadable(_) => Status::ReadFault,
+            Answer::Shortest { .. } => Status::Ok,
+            Answer::NoneTo { .. } => Status::No,
         }
     }
 }
@@ -111,7 +118,29 @@ impl fmt::Display for Answer {
         match self {
             Answer::Refused(subject, cause) => write!(f, "refused: {subject}: {cause}\n"),
             Answer::Unreadable(subject) => write!(f, "fault: {subject} cannot be read\n"),
+            Answer::Shortest { task, actions } => write!(
+                f,
+                "plan 1\ntask {task}\n# shortest\nactions {}\n{}end\n",
+                actions.len(),
+                Lines(actions)
+            ),
+            Answer::NoneTo { depth } => write!(f, "none to {depth}\n"),
         }
+    }
+}
+
+// Texts, each with a line feed.
+#[derive(Drop)]
+struct Lines<'a>(&'a [String]);
+
+impl fmt::Display for Lines<'_> {
+    ghost output = { λ all. Some (lines (map string_bytes all.0.now)) };
+
+    fn fmt<W: fmt::Write>(&self, f: &mut fmt::Formatter<W>) -> fmt::Result {
+        for line in self.0 {
+            write!(f, "{line}\n")?;
+        }
+        Ok(())
     }
 }
 
@@ -120,4 +149,15 @@ impl fmt::Display for Answer {
 pub enum Stop {
     Told(Answer),
     OutOfMemory,
+}
+
+impl From<OutOfMemory> for Stop {
+    ghost use Rattle.std.specs.Prelude.{◌≡◌};
+    ghost use Rattle.ep_cli.specs.declared.answer.Stop.TheVariants as stop;
+
+    ghost from_gives = { λ _ s. s ≡ stop.OutOfMemory };
+
+    fn from(_error: OutOfMemory) -> Stop {
+        Stop::OutOfMemory
+    }
 }

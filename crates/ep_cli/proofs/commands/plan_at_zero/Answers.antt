@@ -19,4 +19,4 @@ returns-in_err-task-clause-answer g c =
 pub returns-clause-answer : goal.returns-clause-answer
 returns-clause-answer g c =
     let fetched = subst (IsFetched (g.L.Library.library c.args.files.now) c.args.file.now) (sym c.deref.ensures.value) c.in_ok-bytes.ensures.fetched in
-    ends_planned _ _ c.args.file.now c.deref.result.now c.in_ok-task.task c.planned.result fetched c.in_ok-task.ensures c.planned.ensures
+    ends_planned _ _ c.args.file.now c.deref.result.now c.in_ok-task.task c.in_ok-answer.answer fetched c.in_ok-task.ensures c.in_ok-answer.ensures

@@ -1,5 +1,4 @@
 -- Where the reading of a task ends.
-use Rattle.std.proofs.Common.{MatchResult}
 use Rattle.std.proofs.lemmas.Result.{err_from_is_err_and, MatchResult-weaker}
 use Rattle.ep_cli.proofs.Steps.{stops_at_tokens, stops_at_tree, stops_at_types, typed_is_task}
 use Rattle.ep_cli.proofs.read.read_task.Goals as goal

@@ -1,5 +1,5 @@
 -- From the answer of a step to the answer of its command, and from there to the answer of the words.
-use Rattle.std.proofs.Common.{◌≡◌, ℕ, List, [], IfSome, Option, Some, None, MatchOption, inl, inr, refl, sym, subst}
+use Rattle.std.proofs.Common.{◌⊎◌, ◌≡◌, ℕ, List, [], IfSome, Option, Some, None, MatchOption, inl, inr, refl, sym, subst}
 use Rattle.ep_logic.specs.declared.formula.Node.{Node}
 use Rattle.ep_theory.specs.Kripke.{Kripke}
 use Rattle.ep_io.specs.Library.{LibraryState, FileMap}
@@ -9,7 +9,7 @@ use Rattle.ep_types.specs.Faults.{first_fault}
 use Rattle.ep_types.specs.Tasks.{task_uses}
 use Rattle.ep_types.specs.declared.fault.TypeFault.{TypeFault}
 use Rattle.ep_cli.specs.declared.answer.Answer.{Answer}
-use Rattle.ep_cli.specs.declared.answer.Answer.TheVariants.{Refused, NoneTo}
+use Rattle.ep_cli.specs.declared.answer.Answer.TheVariants.{Refused, Misused, NoneTo}
 use Rattle.ep_cli.specs.declared.answer.Cause.TheVariants.{NoSuchFile, StrayByte, TooManyTokens, Syntax, TooDeep, Mistyped, NotBuilt}
 use Rattle.ep_cli.specs.declared.answer.Stop.{Stop}
 use Rattle.ep_cli.specs.declared.answer.Stop.TheVariants.{Told, OutOfMemory}
@@ -23,10 +23,10 @@ use Rattle.ep_cli.specs.Plain.{IsPlainTask}
 use Rattle.ep_cli.specs.Planning.{IsMet}
 use Rattle.ep_cli.specs.Planning as plan
 use Rattle.ep_cli.specs.Run.{IsAnswerOf, CommandNames, IsCommandAnswer, IsAnswer}
-use Rattle.ep_cli.specs.Served.{Outcome, Answers, Sized, TaskRead, Planned, answers, place_at}
+use Rattle.ep_cli.specs.Served.{Work, Outcome, Answers, Sized, TaskRead, Planned, answers, place_at}
 use Rattle.ep_cli.specs.Steps.{OnlyFile, IsFetched, IsTaskOf, StopsAtFetch, StopsBy, StopsCommand, nothing_behind}
 use Rattle.ep_cli.proofs.Steps.{Fetched-weaker, TaskRead-weaker, TaskRead-behind}
-use Rattle.ep_cli.proofs.Told.{IsBehind, refusal_is_behind, answer_is_behind}
+use Rattle.ep_cli.proofs.Told.{IsBehind, refusal_is_behind, answer_is_behind, unserved_is_behind}
 
 some_map : {A : Type 0} {P Q : A → Type 0} (o : Option A) → ((x : A) → P x → Q x) → IfSome o P → IfSome o Q
 some_map None f h = h
@@ -58,7 +58,24 @@ IsAnswerOf-weaker work more names others old new status text f g h = record {
 pub IsAnswer-command : (words : List (List ℕ)) (command : Command) (old new : LibraryState) (status : Status) (text : List ℕ)
     → IsCommand words command → IsCommandAnswer command old new status text → IsAnswer words old new status text
 IsAnswer-command words command old new status text are h =
-    IsAnswerOf-weaker _ _ _ _ old new status text (λ files o w. inr (command, are, w)) (λ s name n. (command, are, n)) h
+    IsAnswerOf-weaker _ _ _ _ old new status text (λ files o w. inr (inr (command, are, w))) (λ s name n. (command, are, n)) h
+
+-- what is told of words that are not served is their answer
+pub unserved_is_answer : (words : List (List ℕ)) (library : LibraryState) (answer : Answer) → (answer ≡ Misused) ⊎ (answer ≡ Refused Words NotBuilt)
+    → ((files : FileMap) → Work files words (answers answer)) → IsAnswer words library library (answer_status answer) (answer_text answer)
+unserved_is_answer words library answer is work =
+    let b = unserved_is_behind answer is in
+    record {
+      possible = b.written;
+      served = λ n. all_files library.held;
+      fault = λ e. absurd (b.no_fault e);
+      missing = λ s e. absurd (b.not_missing s e);
+      too_long = λ s e. absurd (b.not_long s e);
+    }
+  where
+    all_files : (held : Option FileMap) → IfSome held (λ files. Work files words (answers answer))
+    all_files None = tt
+    all_files (Some files) = work files
 
 -- ---- at the fetch of the task
 

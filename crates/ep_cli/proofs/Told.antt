@@ -1,7 +1,8 @@
 -- What is told behind a fetch is not what a fetch tells.
-use Rattle.std.proofs.Common.{◌≡◌, ◌≢◌, ℕ, List, [], ◌∷◌, ◌++◌, false, true, drop, get_or, eqb, refl, ap, arith, rules}
+use Rattle.std.proofs.Common.{◌⊎◌, inl, inr, sym, subst, ◌≡◌, ◌≢◌, ℕ, List, [], ◌∷◌, ◌++◌, false, true, drop, get_or, eqb, refl, ap, arith, rules}
 use Rattle.ep_types.specs.declared.fault.TypeFault.TheVariants as type_fault
-use Rattle.ep_cli.specs.declared.answer.Answer.TheVariants.{Refused}
+use Rattle.ep_cli.specs.declared.answer.Answer.{Answer}
+use Rattle.ep_cli.specs.declared.answer.Answer.TheVariants.{Refused, Misused}
 use Rattle.ep_cli.specs.declared.answer.Cause.{Cause}
 use Rattle.ep_cli.specs.declared.answer.Cause.TheVariants.{NoSuchFile, TooLong, StrayByte, TooManyTokens, Syntax, TooDeep, Mistyped, NotBuilt}
 use Rattle.ep_cli.specs.declared.answer.Subject.{Subject}
@@ -123,3 +124,28 @@ answer_is_behind status text name (NoneTo depth) e =
       not_missing = λ s f. differ 0 (none_text depth) (answer_text (Refused s NoSuchFile)) refl f;
       not_long = λ s f. differ 0 (none_text depth) (answer_text (Refused s TooLong)) refl f;
     })
+
+-- ---- words that are not served
+
+words_are_behind : IsBehind (answer_status (Refused Words NotBuilt)) (answer_text (Refused Words NotBuilt))
+words_are_behind = record { written = tt; no_fault = λ e. cc; not_missing = missing; not_long = long }
+  where
+    missing : (s : Subject) → answer_text (Refused Words NotBuilt) ≡ answer_text (Refused s NoSuchFile) → ⊥
+    missing Words e = differ 18 _ _ refl e
+    missing Task e = differ 9 _ _ refl e
+
+    long : (s : Subject) → answer_text (Refused Words NotBuilt) ≡ answer_text (Refused s TooLong) → ⊥
+    long Words e = differ 16 _ _ refl e
+    long Task e = differ 9 _ _ refl e
+
+usage_is_behind : IsBehind (answer_status Misused) (answer_text Misused)
+usage_is_behind = record {
+  written = tt;
+  no_fault = λ e. cc;
+  not_missing = λ s e. differ 0 (answer_text Misused) (answer_text (Refused s NoSuchFile)) refl e;
+  not_long = λ s e. differ 0 (answer_text Misused) (answer_text (Refused s TooLong)) refl e;
+}
+
+pub unserved_is_behind : (answer : Answer) → (answer ≡ Misused) ⊎ (answer ≡ Refused Words NotBuilt) → IsBehind (answer_status answer) (answer_text answer)
+unserved_is_behind answer (inl e) = subst (λ a. IsBehind (answer_status a) (answer_text a)) (sym e) usage_is_behind
+unserved_is_behind answer (inr e) = subst (λ a. IsBehind (answer_status a) (answer_text a)) (sym e) words_are_behind

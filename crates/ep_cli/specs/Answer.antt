@@ -3,7 +3,7 @@ use Rattle.std.specs.Prelude.{ℕ, List, [], ◌∷◌, ◌++◌, length, map, s
 use Rattle.std.specs.List.{flat_map}
 use Rattle.std.specs.Fmt.{decimal}
 use Rattle.ep_cli.specs.declared.answer.Answer.{Answer}
-use Rattle.ep_cli.specs.declared.answer.Answer.TheVariants.{Refused, Unreadable, Shortest, NoneTo}
+use Rattle.ep_cli.specs.declared.answer.Answer.TheVariants.{Refused, Misused, Unreadable, Shortest, NoneTo}
 use Rattle.ep_cli.specs.declared.answer.Cause.{Cause}
 use Rattle.ep_cli.specs.declared.answer.Cause.TheVariants.{NoSuchFile, TooLong, StrayByte, TooManyTokens, Syntax, TooDeep, Mistyped, NotBuilt}
 use Rattle.ep_cli.specs.declared.answer.Place.{Place}
@@ -59,12 +59,14 @@ none_text depth = line (codes "none to " ++ decimal depth)
 abbrev pub answer_text : Answer → List ℕ
 answer_text (Refused subject cause) =
     codes "refused: " ++ subject_text subject ++ codes ": " ++ cause_text cause ++ 10 ∷ []
+answer_text Misused = line (codes "usage: plan|validate|eval|state|contract|same|check|trial")
 answer_text (Unreadable subject) = codes "fault: " ++ subject_text subject ++ codes " cannot be read" ++ 10 ∷ []
 answer_text (Shortest task actions) = plan_text (string_bytes task) (map string_bytes actions.items)
 answer_text (NoneTo depth) = none_text depth
 
 abbrev pub answer_status : Answer → Status
 answer_status (Refused subject cause) = status.Refused
+answer_status Misused = status.Usage
 answer_status (Unreadable subject) = status.ReadFault
 answer_status (Shortest task actions) = status.Ok
 answer_status (NoneTo depth) = status.No

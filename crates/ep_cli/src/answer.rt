@@ -90,6 +90,8 @@ fn fault_words(fault: TypeFault) -> &'static str
 #[derive(Debug, Drop)]
 pub enum Answer {
     Refused(Subject, Cause),
+    /// The words are those of no command.
+    Misused,
     /// The library failed on this file.
     Unreadable(Subject),
     /// A plan for the task with this name, by the printed names of its actions, and none is shorter.
@@ -104,6 +106,7 @@ impl Answer {
     {
         match self {
             Answer::Refused(..) => Status::Refused,
+            Answer::Misused => Status::Usage,
             Answer::Unreadable(_) => Status::ReadFault,
             Answer::Shortest { .. } => Status::Ok,
             Answer::NoneTo { .. } => Status::No,
@@ -117,6 +120,9 @@ impl fmt::Display for Answer {
     fn fmt<W: fmt::Write>(&self, f: &mut fmt::Formatter<W>) -> fmt::Result {
         match self {
             Answer::Refused(subject, cause) => write!(f, "refused: {subject}: {cause}\n"),
+            Answer::Misused => {
+                f.write_str("usage: plan|validate|eval|state|contract|same|check|trial\n")
+            }
             Answer::Unreadable(subject) => write!(f, "fault: {subject} cannot be read\n"),
             Answer::Shortest { task, actions } => write!(
                 f,

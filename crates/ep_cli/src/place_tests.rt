@@ -83,11 +83,12 @@ fn refuses_cuts(
     alloc: Global,
     lines: &[&str],
     counts: &[u32],
+    total: u32,
 ) -> Result<(), Fail> {
     let text = text_of(alloc, lines, 0, "")?;
     assert!(rt; text.len() <= 1_048_576);
     let found = tokens(alloc, text.as_bytes())?;
-    assert_eq!(rt; found.count(), counts.iter().sum());
+    assert_eq!(rt; found.count(), total);
     for token in 0..found.count() {
         let cause = format!(in alloc; "syntax at token {token}, line {}", line_of(counts, token))?;
         refuses_cut(rt, alloc, &text, found.token(token).start, &cause)?;
@@ -97,8 +98,8 @@ fn refuses_cuts(
 
 #[test]
 fn cuts_are_refused_where_they_end(rt: HostRuntime) -> Result<(), Fail> {
-    refuses_cuts(&rt, rt.alloc(), &COIN, &COIN_TOKENS)?;
-    refuses_cuts(&rt, rt.alloc(), &LETTER, &LETTER_TOKENS)?;
+    refuses_cuts(&rt, rt.alloc(), &COIN, &COIN_TOKENS, 91)?;
+    refuses_cuts(&rt, rt.alloc(), &LETTER, &LETTER_TOKENS, 82)?;
     Ok(())
 }
 

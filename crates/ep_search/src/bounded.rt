@@ -22,8 +22,10 @@ use ep_store::Store;
 use std::alloc::{AllocError, Global};
 use std::sync::ledger::Ledger;
 
-/// Looks for a plan, best entries first: the guide scores each state that is stored, and whatever it scores, the
-/// answer is right. Each try of an action ticks the counter once.
+/// Looks for a plan by best-first search: each state that is stored below the depth is scored by the guide, and the
+/// state with the least score is expanded next. A state that is made is tested for the goal, then for its worlds, and
+/// then stored. Each try of an action ticks the counter once, and the only error is want of memory. That no guide can
+/// make an answer false, and the bounds on states and worlds, are this project's own.
 pub fn search<L: Ledger>(
     alloc: Global,
     problem: &Problem,
@@ -46,6 +48,7 @@ pub fn search<L: Ledger>(
     answer(alloc, problem, &setting, guide, steps)
 }
 
+// The search, once the goal's parts are known.
 fn answer<L: Ledger>(
     alloc: Global,
     problem: &Problem,

@@ -1,0 +1,17 @@
+pub mod AlikeLemmas
+pub mod FitLemmas
+pub mod SizeLemmas
+pub mod GoalLemmas
+pub mod PartLemmas
+pub mod AfterLemmas
+pub mod PathLemmas
+pub mod CoverLemmas
+pub mod ManyLemmas
+pub mod MoveLemmas
+pub mod SoundLemmas
+pub mod TriedLemmas
+pub mod LeadLemmas
+pub mod ExpandLemmas
+pub mod RunLemmas
+pub mod KeptLemmas
+pub mod StartLemmas

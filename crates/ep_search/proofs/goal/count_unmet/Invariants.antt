@@ -1,0 +1,10 @@
+use Rattle.std.proofs.Common.{◌≡◌, ◌≤◌, ◌↔◌, take}
+use Rattle.std.specs.List.{AllByRecursion}
+use Rattle.ep_problem.specs.Plans.{Satisfies}
+use Rattle.ep_search.proofs.goal.count_unmet.Given as goal
+
+abbrev pub invariant-loop-part : goal.invariant-loop-part
+invariant-loop-part l = record {
+  few : l.unmet ≤ l.part-index;
+  none : (l.unmet ≡ 0) ↔ AllByRecursion (Satisfies l.s) (take l.part-index l.parts);
+}

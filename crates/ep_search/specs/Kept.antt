@@ -1,0 +1,7 @@
+-- A count that never falls.
+use Rattle.std.specs.Prelude.{◌≡◌, ℕ, ◌⊎◌}
+use Rattle.ep_guide.specs.Asked.{Rose}
+
+-- the count is as before, or it rose
+abbrev pub Kept : ℕ → ℕ → Type 0
+Kept before after = (before ≡ after) ⊎ Rose before after

@@ -1,0 +1,9 @@
+pub mod Alike
+pub mod Conjuncts
+pub mod Kept
+pub mod Within
+pub mod Allowed
+pub mod Limits
+pub mod Made
+pub mod Sound
+pub mod Progresses

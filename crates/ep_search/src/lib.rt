@@ -1,0 +1,19 @@
+//! Bounded best-first search for a plan. Every answer is one that the problem allows, whatever the guide scores.
+#![tactic(auto)]
+
+mod answer;
+mod ask;
+mod bounded;
+mod child;
+mod expand;
+mod goal;
+mod made;
+mod parts;
+mod progress;
+mod run;
+mod setting;
+#[cfg(test)]
+mod tests;
+
+pub use answer::{Answer, Bounds, Mode};
+pub use bounded::search;

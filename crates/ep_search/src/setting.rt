@@ -1,0 +1,10 @@
+use crate::answer::{Bounds, Mode};
+use ep_logic::{Formula, List};
+
+// What a search is set to, and the parts of the goal, which a guide is told of.
+#[derive(Drop)]
+pub struct Setting {
+    pub bounds: Bounds,
+    pub mode: Mode,
+    pub parts: List<Formula>,
+}

@@ -1,0 +1,13 @@
+pub mod CandidateLemmas
+pub mod ReadLemmas
+pub mod WithinLemmas
+pub mod LinkLemmas
+pub mod MadeLemmas
+pub mod RepeatLemmas
+pub mod ActionLemmas
+pub mod InitialLemmas
+pub mod NameLemmas
+pub mod FaultLemmas
+pub mod DifferLemmas
+pub mod FormulaLemmas
+pub mod BuildLemmas

@@ -1,0 +1,13 @@
+pub mod Actions
+pub mod Answers
+pub mod Bodies
+pub mod Faults
+pub mod Initial
+pub mod Judged
+pub mod Links
+pub mod Made
+pub mod Parts
+pub mod PrintedNames
+pub mod Task
+pub mod Within
+pub mod Written

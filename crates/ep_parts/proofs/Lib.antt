@@ -10,4 +10,5 @@ pub mod NameLemmas
 pub mod FaultLemmas
 pub mod DifferLemmas
 pub mod FormulaLemmas
-pub mod BuildLemmas
+pub mod BodyLemmas
+pub mod WordLemmas

@@ -75,7 +75,7 @@ braced-shallow marks h = shallow-left marks (fixed the.CloseBrace ∷ []) h.1
 
 -- ---- fresh names
 
-abbrev IsFresh : List Text → List Text → Type 0
+abbrev pub IsFresh : List Text → List Text → Type 0
 IsFresh taken [] = Unit {0}
 IsFresh taken (x ∷ xs) = (is_among x taken ≡ false) × IsFresh (taken ++ x ∷ []) xs
 
@@ -100,7 +100,7 @@ apart-fresh taken (x ∷ xs) h f =
 pub fresh-apart : (xs : List Text) → IsFresh [] xs → IsApart xs
 fresh-apart xs f = apart-fresh [] xs (pairs-nil (λ y z. y ≢ z)) f
 
-new-name : (t : ℕ) (x : Text) (taken : List Text) → first_fault (at t (NewName x taken)) ≡ None → is_among x taken ≡ false
+pub new-name : (t : ℕ) (x : Text) (taken : List Text) → first_fault (at t (NewName x taken)) ≡ None → is_among x taken ≡ false
 new-name t x taken h = (row-none (is_among x taken) Duplicate _ (located-none t (first_row (table (NewName x taken))) h)).0
 
 events-fresh : (taken : List Text) (es : List EventTree) (s : Scope) → first_fault (tasks.event_uses taken es s) ≡ None → IsFresh taken (tasks.event_names es)
@@ -119,10 +119,10 @@ worlds-fresh taken (w ∷ ws) s h =
 
 -- ---- as many tokens at least
 
-long-left : (xs ys : List Mark) (n : ℕ) → length (xs ++ ys) ≤ n → length xs ≤ n
+pub long-left : (xs ys : List Mark) (n : ℕ) → length (xs ++ ys) ≤ n → length xs ≤ n
 long-left xs ys n h = omega (arith, length-append xs ys, h)
 
-long-right : (xs ys : List Mark) (n : ℕ) → length (xs ++ ys) ≤ n → length ys ≤ n
+pub long-right : (xs ys : List Mark) (n : ℕ) → length (xs ++ ys) ≤ n → length ys ≤ n
 long-right xs ys n h = omega (arith, length-append xs ys, h)
 
 later-names : (xs : List Name) → length xs ≤ length (spell.behind the.Comma (map (λ x. named x ∷ []) xs))

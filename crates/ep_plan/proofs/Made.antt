@@ -2,7 +2,6 @@
 use Rattle.std.proofs.Common.{◌≡◌, ℕ, ◌+◌, ◌<◌, List, [], ◌∷◌, ◌++◌, length, take, slice_get, Some, refl, sym, ap, ◌∙◌, subst, arith, below_more, get_or, Result, Ok, Err, IfOk}
 use Rattle.std.proofs.lemmas.Option.{same_Some, none-some, slice_get_within, slice_get-get_or, get_or_from_slice_get}
 use Rattle.std.proofs.lemmas.List.{take_more, take_all}
-use Rattle.std.specs.List.{AllByRecursion}
 use Rattle.ep_logic.specs.declared.ids.ActionId.{ActionId}
 use Rattle.ep_theory.specs.Kripke.{Kripke, IsState}
 use Rattle.ep_theory.specs.Events.{EventModel}
@@ -13,12 +12,12 @@ use Rattle.ep_update.specs.declared.update.UpdateError.{UpdateError}
 use Rattle.ep_update.specs.declared.update.UpdateError.TheVariants.{Inapplicable, TooManyWorlds, TooManyLinks, OutOfMemory}
 use Rattle.ep_update.specs.Updates.{IsWithin, IsRefusal}
 use Rattle.ep_problem.specs.PlanningTask.{PlanningTask, IsPlanningTask}
-use Rattle.ep_problem.specs.Plans.{after, Satisfies}
+use Rattle.ep_problem.specs.Plans.{after}
 use Rattle.ep_problem.proofs.Steps.{step_some, all_get}
 use Rattle.ep_problem.proofs.Runs.{after-snoc, after_state}
 use Rattle.ep_plan.specs.declared.runs.Outcome.{Outcome}
 use Rattle.ep_plan.specs.declared.runs.Outcome.TheVariants.{After, Stuck, SpentWorlds, SpentLinks}
-use Rattle.ep_plan.specs.Runs.{IsNext, IsMade, IsThrough, StopsAt, RunUnder, AreOf}
+use Rattle.ep_plan.specs.Runs.{IsNext, IsMade, StopsAt, RunUnder, AreOf}
 use Rattle.ep_plan.specs.Stops.{stop_of}
 
 -- the first n steps are made, and leave S

@@ -1,5 +1,5 @@
 -- A run has one outcome, and a plan one verdict.
-use Rattle.std.proofs.Common.{◌≡◌, ℕ, ◌+◌, ◌<◌, ◌≤◌, List, length, take, slice_get, Some, refl, sym, ap, ◌∙◌, subst, arith, ◌⊎◌, inl, inr, ⊎_elim}
+use Rattle.std.proofs.Common.{◌≡◌, ℕ, ◌+◌, ◌<◌, ◌≤◌, List, slice_get, refl, sym, ap, ◌∙◌, subst, arith, ◌⊎◌, ⊎_elim}
 use Rattle.std.proofs.lemmas.Option.{same_Some, slice_get_within}
 use Rattle.std.proofs.lemmas.Bool.{cases_order}
 use Rattle.ep_logic.specs.declared.ids.ActionId.{ActionId}
@@ -11,7 +11,6 @@ use Rattle.ep_update.specs.declared.update.Size.{Size}
 use Rattle.ep_update.specs.declared.update.UpdateError.TheVariants.{TooManyWorlds, TooManyLinks}
 use Rattle.ep_update.specs.Updates.{IsWithin, IsRefusal}
 use Rattle.ep_problem.specs.PlanningTask.{PlanningTask}
-use Rattle.ep_problem.specs.Plans.{after, Reaches}
 use Rattle.ep_plan.specs.declared.runs.Outcome.{Outcome}
 use Rattle.ep_plan.specs.declared.runs.Outcome.TheVariants.{After, Stuck, SpentWorlds, SpentLinks}
 use Rattle.ep_plan.specs.declared.verdicts.Verdict.{Verdict}

@@ -6,7 +6,6 @@ use Rattle.ep_theory.specs.Kripke.{Kripke}
 use Rattle.ep_update.specs.declared.update.Size.{Size}
 use Rattle.ep_problem.specs.PlanningTask.{PlanningTask}
 use Rattle.ep_problem.specs.Plans.{Reaches}
-use Rattle.ep_plan.specs.declared.runs.Outcome.{Outcome}
 use Rattle.ep_plan.specs.declared.runs.Outcome.TheVariants.{After, Stuck, SpentWorlds, SpentLinks}
 use Rattle.ep_plan.specs.declared.verdicts.Verdict.{Verdict}
 use Rattle.ep_plan.specs.declared.verdicts.Verdict.TheVariants as verdict

@@ -1,4 +1,4 @@
-ghost use Rattle.std.specs.Prelude.{◌≡◌, ◌<◌, ◌≤◌};
+ghost use Rattle.std.specs.Prelude.{◌≡◌, ◌<◌};
 
 use crate::{Outcome, Verdict, plan_fits, run_plan, validate};
 use ep_event::{Action, ActionParts, Assign, EventLink, EventParts};
@@ -19,15 +19,15 @@ const ANN: AgentId = AgentId { n: 0 };
 
 const ATOM: AtomId = AtomId { n: 0 };
 
-// A state of one agent and one atom, which is true at the worlds that say so. The agent links each world to itself,
+// A state of one agent and one atom, which is true at the first worlds, so many. The agent links each world to itself,
 // and each is designated.
-fn state(rt: &impl Abort, alloc: Global, worlds: &[bool]) -> Result<State, Fail> {
+fn state(rt: &impl Abort, alloc: Global, worlds: u32, trues: u32) -> Result<State, Fail> {
     let mut truth = List::new(alloc);
     let mut links = List::new(alloc);
     let mut designated = List::new(alloc);
-    for (n, value) in worlds.iter().enumerate() {
-        let world = WorldId { n: n as u32 };
-        truth.push(row(alloc, *value)?)?;
+    for n in 0..worlds {
+        let world = WorldId { n };
+        truth.push(row(alloc, n < trues)?)?;
         links.push(Link {
             agent: ANN,
             from: world,
@@ -119,7 +119,7 @@ fn wait_task(rt: &impl Abort, alloc: Global) -> Result<Problem, Fail> {
     actions.push(either(rt, alloc, &[(0, 0), (1, 1)])?)?;
     actions.push(either(rt, alloc, &[(0, 0), (0, 1), (1, 0), (1, 1)])?)?;
     actions.push(made_true(alloc)?)?;
-    Ok(problem(rt, state(rt, alloc, &[false])?, actions))
+    Ok(problem(rt, state(rt, alloc, 1, 0)?, actions))
 }
 
 // Two worlds, the atom true at the first alone. That nothing happens is announced, or that the atom is true.
@@ -127,7 +127,7 @@ fn two_task(rt: &impl Abort, alloc: Global) -> Result<Problem, Fail> {
     let mut actions = List::new(alloc);
     actions.push(Action::announce(alloc, 1, Formula::truth(true))?)?;
     actions.push(Action::announce(alloc, 1, Formula::atom(ATOM))?)?;
-    Ok(problem(rt, state(rt, alloc, &[true, false])?, actions))
+    Ok(problem(rt, state(rt, alloc, 2, 1)?, actions))
 }
 
 fn plan_of(alloc: Global, places: &[u32]) -> Result<Plan, OutOfMemory> {

@@ -1,4 +1,4 @@
-use Rattle.std.proofs.Common.{◌≡◌, ◌+◌, ◌<◌, length, arith, refl, sym, ap, ◌∙◌, subst, unwrap_or}
+use Rattle.std.proofs.Common.{◌≡◌, ◌+◌, length, arith, refl, sym, ap, ◌∙◌, subst, unwrap_or}
 use Rattle.ep_theory.specs.Kripke.{Kripke}
 use Rattle.ep_plan.proofs.Made.{HasMade, left_agents, left_atoms, run_through, one_more_made, refused_stop, listed_by, ok_change}
 use Rattle.ep_plan.proofs.runs.run_plan.Goals as goal

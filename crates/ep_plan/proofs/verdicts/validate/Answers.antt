@@ -1,4 +1,4 @@
-use Rattle.std.proofs.Common.{◌≡◌, subst}
+use Rattle.std.proofs.Common.{subst}
 use Rattle.ep_plan.specs.Runs.{IsThrough, RunUnder}
 use Rattle.ep_plan.specs.Verdicts.{widest}
 use Rattle.ep_plan.proofs.Fitting.{goal_fits}

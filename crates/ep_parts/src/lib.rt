@@ -21,4 +21,4 @@ pub use initial::explicit_state;
 pub use limits::{check_limits, check_worlds};
 
 #[cfg(test)]
-mod limit_tests;
+mod tests;

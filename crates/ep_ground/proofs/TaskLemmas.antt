@@ -1,0 +1,163 @@
+-- What joins the parts of a ground task.
+use Rattle.std.proofs.Common.{◌≡◌, ◌≢◌, ℕ, ◌<◌, ◌≤◌, Bool, true, false, cond, nat_lt, ◌⊎◌, inl, inr, List, [], ◌∷◌, ◌++◌, Option, Some, None, Result, Ok, Err, length, map, get_or, All, refl, ap, sym, ◌∙◌, subst, arith}
+use Rattle.std.specs.List.{flat_map}
+use Rattle.std.proofs.lemmas.Bool.Decides.{nat_tests}
+use Rattle.std.proofs.lemmas.List.{length-append, length-map}
+use Rattle.std.proofs.lemmas.List.Elements.{All-weaker}
+use Rattle.ep_problem.specs.PlanningTask.{PlanningTask}
+use Rattle.ep_syntax.specs.declared.tree.InitTree.{InitTree}
+use Rattle.ep_syntax.specs.declared.tree.InitTree.TheVariants.{Explicit, Lawful}
+use Rattle.ep_syntax.specs.declared.tree.SchemaTree.{SchemaTree}
+use Rattle.ep_syntax.specs.declared.tree.TaskTree.{TaskTree}
+use Rattle.ep_types.specs.Names.{Text}
+use Rattle.ep_types.specs.Tasks.{HasNoFault, declarations}
+use Rattle.ep_types.specs.declared.scope.Declared.{Declared}
+use Rattle.ep_universe.specs.Atoms.{atoms_of}
+use Rattle.ep_universe.specs.Objects.{agents_of}
+use Rattle.ep_universe.specs.Sizes.{IsBuildable}
+use Rattle.ep_parts.specs.Actions.{schema_bindings, action_at, schema_actions, actions_of}
+use Rattle.ep_parts.specs.Bodies.{IsBuildableSchema}
+use Rattle.ep_parts.specs.Faults.{Reports, above, atom_twice, first_of, limit_fault, init_fault, fault_of}
+use Rattle.ep_ground.specs.Grounding.{IsNamed, later_fault}
+use Rattle.ep_parts.specs.Judged.{told, Tells}
+use Rattle.ep_parts.specs.Links.{agent_count}
+use Rattle.ep_parts.specs.PrintedNames.{object_name, atom_name, action_name, schema_names, action_names, agent_names, atom_names}
+use Rattle.ep_parts.specs.Task.{GroundTask, IsExplicit, IsRead, initial_of, problem_from, task_of}
+use Rattle.ep_parts.specs.Within.{IsWithinLimits}
+use Rattle.ep_parts.specs.Written.{body_formulas}
+use Rattle.ep_parts.specs.declared.fault.GroundError.{GroundError}
+use Rattle.ep_parts.specs.declared.fault.GroundError.TheVariants as fault
+use Rattle.ep_parts.proofs.BodyLemmas.{IsSmall, IsSound, schema_buildable}
+use Rattle.ep_parts.proofs.WordLemmas.{schemas_sound}
+
+-- ---- counts
+
+pub as_many_actions : (d : Declared) (ss : List SchemaTree) → length (action_names d ss) ≡ length (actions_of d ss)
+as_many_actions d [] = refl
+as_many_actions d (s ∷ ss) =
+    omega (arith, length-append (schema_names d s) (action_names d ss), length-append (schema_actions d s) (actions_of d ss), length-map (schema_bindings d s) (action_name d s), length-map (schema_bindings d s) (action_at d s), as_many_actions d ss)
+
+pub as_many_agents : (d : Declared) → length (agent_names d) ≡ agent_count d
+as_many_agents d = length-map (agents_of d) (object_name d)
+
+pub as_many_atoms : (d : Declared) → length (atom_names d) ≡ length (atoms_of d)
+as_many_atoms d = length-map (atoms_of d) (atom_name d)
+
+pub initial_agents : (d : Declared) (i : InitTree) → IsExplicit i → (initial_of d i).agents ≡ agent_count d
+initial_agents d (Explicit worlds designated links) h = refl
+initial_agents d (Lawful vary facts law sees designated) h = absurd h
+
+pub initial_atoms : (d : Declared) (i : InitTree) → IsExplicit i → (initial_of d i).atoms ≡ length (atoms_of d)
+initial_atoms d (Explicit worlds designated links) h = refl
+initial_atoms d (Lawful vary facts law sees designated) h = absurd h
+
+not_above : (limit n : ℕ) (f : ℕ → GroundError) (b : Bool) → nat_lt limit n ≡ b → cond b (Some (f n)) None ≡ None → n ≤ limit
+not_above limit n f true e h = cc
+not_above limit n f false e h = grind (arith, nat_tests)
+
+pub few_worlds : (n : ℕ) → above 256 fault.TooManyWorlds n ≡ None → n ≤ 256
+few_worlds n h = not_above 256 n fault.TooManyWorlds (nat_lt 256 n) refl h
+
+pub initial_worlds : (d : Declared) (i : InitTree) → IsExplicit i → init_fault i ≡ None → (initial_of d i).worlds ≤ 256
+initial_worlds d (Explicit worlds designated links) h k = few_worlds (length worlds) k
+initial_worlds d (Lawful vary facts law sees designated) h k = absurd h
+
+-- ---- schemas that can be built
+
+pub schemas_buildable : (t : TaskTree) (d : Declared) → d ≡ declarations t → HasNoFault t → IsRead t → IsWithinLimits d t → All (IsBuildableSchema d) t.schemas
+schemas_buildable t d e h read within =
+    let sound = subst (λ (c : Declared). All (IsSound c) t.schemas) (sym e) (schemas_sound t h read) in
+    λ k x l.
+    let s = get_or t.schemas k x in
+    let w = within.schemas k x l in
+    schema_buildable d s (sound k x l) w.events (λ some. All-weaker (IsBuildable d) (IsSmall d) (λ f b. b.nodes) (body_formulas s.body) (w.formulas some))
+
+-- ---- rows
+
+pub later_none : (a i : Option GroundError) → a ≡ None → i ≡ None → first_of (a ∷ i ∷ []) ≡ None
+later_none a i e f = λ j. first_of (e j ∷ f j ∷ [])
+
+pub later_first : (a i : Option GroundError) (x : GroundError) → a ≡ Some x → first_of (a ∷ i ∷ []) ≡ Some x
+later_first a i x e = ap (λ r. first_of (r ∷ i ∷ [])) e
+
+pub later_second : (a i : Option GroundError) (x : GroundError) → a ≡ None → i ≡ Some x → first_of (a ∷ i ∷ []) ≡ Some x
+later_second a i x e f = λ j. first_of (e j ∷ f j ∷ [])
+
+pub told_none : (row : Option GroundError) (x : Unit {0}) → told row ≡ Ok x → row ≡ None
+told_none None x h = refl
+told_none (Some f) x h = cc
+
+pub told_some : (row : Option GroundError) (e : GroundError) → told row ≡ Err e → row ≡ Some e
+told_some None e h = cc
+told_some (Some f) e h = cc
+
+pub reports_some : (o : Option GroundError) (e : GroundError) → o ≡ Some e → Reports o e
+reports_some o fault.OutOfMemory h = tt
+reports_some o (fault.TooManyObjects n) h = h
+reports_some o fault.NoAgent h = h
+reports_some o (fault.TooManyAgents n) h = h
+reports_some o (fault.TooManyAtoms n) h = h
+reports_some o (fault.TooManyActions n) h = h
+reports_some o (fault.TooManyEvents s n) h = h
+reports_some o (fault.TooLargeFormula t) h = h
+reports_some o (fault.TooLargeTask n) h = h
+reports_some o (fault.AtomTwice n) h = h
+reports_some o (fault.TooManyVaried n) h = h
+reports_some o (fault.TooManyWorlds n) h = h
+reports_some o fault.NoDesignated h = h
+
+-- an error is want of memory, or what was found
+pub found_or : (o : Option GroundError) (e : GroundError) → Reports o e → (e ≡ fault.OutOfMemory) ⊎ (o ≡ Some e)
+found_or o fault.OutOfMemory h = inl refl
+found_or o (fault.TooManyObjects n) h = inr h
+found_or o fault.NoAgent h = inr h
+found_or o (fault.TooManyAgents n) h = inr h
+found_or o (fault.TooManyAtoms n) h = inr h
+found_or o (fault.TooManyActions n) h = inr h
+found_or o (fault.TooManyEvents s n) h = inr h
+found_or o (fault.TooLargeFormula t) h = inr h
+found_or o (fault.TooLargeTask n) h = inr h
+found_or o (fault.AtomTwice n) h = inr h
+found_or o (fault.TooManyVaried n) h = inr h
+found_or o (fault.TooManyWorlds n) h = inr h
+found_or o fault.NoDesignated h = inr h
+
+-- the same of an answer that tells each error but want of memory
+pub told_or : (o : Option GroundError) (e : GroundError) → Tells o e → (e ≡ fault.OutOfMemory) ⊎ (o ≡ Some e)
+told_or o fault.OutOfMemory h = inl refl
+told_or o (fault.TooManyObjects n) h = inr (h (λ e. cc))
+told_or o fault.NoAgent h = inr (h (λ e. cc))
+told_or o (fault.TooManyAgents n) h = inr (h (λ e. cc))
+told_or o (fault.TooManyAtoms n) h = inr (h (λ e. cc))
+told_or o (fault.TooManyActions n) h = inr (h (λ e. cc))
+told_or o (fault.TooManyEvents s n) h = inr (h (λ e. cc))
+told_or o (fault.TooLargeFormula t) h = inr (h (λ e. cc))
+told_or o (fault.TooLargeTask n) h = inr (h (λ e. cc))
+told_or o (fault.AtomTwice n) h = inr (h (λ e. cc))
+told_or o (fault.TooManyVaried n) h = inr (h (λ e. cc))
+told_or o (fault.TooManyWorlds n) h = inr (h (λ e. cc))
+told_or o fault.NoDesignated h = inr (h (λ e. cc))
+
+-- where the limits are kept, the first row is a later one
+pub whole_fault : (d : Declared) (t : TaskTree) → limit_fault d t ≡ None → fault_of d t ≡ later_fault d t
+whole_fault d t h = ap (λ r. first_of (r ∷ atom_twice (action_names d t.schemas) (actions_of d t.schemas) ∷ init_fault t.init ∷ [])) h
+
+pub limits_first : (d : Declared) (t : TaskTree) (e : GroundError) → limit_fault d t ≡ Some e → fault_of d t ≡ Some e
+limits_first d t e h = ap (λ r. first_of (r ∷ atom_twice (action_names d t.schemas) (actions_of d t.schemas) ∷ init_fault t.init ∷ [])) h
+
+-- ---- names
+
+pub named : (t : TaskTree) → IsExplicit t.init → length (declarations t).objects ≤ 64 → IsNamed (task_of t)
+named t h few =
+    let d = declarations t in
+    record {
+      agents = as_many_agents d ∙ sym (initial_agents d t.init h);
+      atoms = as_many_atoms d ∙ sym (initial_atoms d t.init h);
+      actions = as_many_actions d t.schemas;
+      objects = few;
+    }
+
+-- a task with the parts that the tree has is the tree's
+pub same_task : (t : TaskTree) (agents atoms actions : List Text) (problem : PlanningTask) → agents ≡ agent_names (declarations t) → atoms ≡ atom_names (declarations t) → actions ≡ action_names (declarations t) t.schemas →
+    problem ≡ problem_from (declarations t) t → ◌≡◌ {A = GroundTask} (record { tree = t; agents = agents; atoms = atoms; actions = actions; problem = problem }) (task_of t)
+same_task t agents atoms actions problem e f g h = λ j. record { tree = t; agents = e j; atoms = f j; actions = g j; problem = h j }

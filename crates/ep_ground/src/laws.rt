@@ -1,0 +1,16 @@
+//! What the actions and the goal of a ground task are.
+
+ghost use Rattle.std.specs.List.{AllByRecursion};
+ghost use Rattle.ep_syntax.specs.declared.tree.TaskTree.{TaskTree};
+ghost use Rattle.ep_theory.specs.Fits.{ActionFits, Fits};
+ghost use Rattle.ep_types.specs.Tasks.{HasNoFault, declarations};
+ghost use Rattle.ep_parts.specs.Actions.{actions_of};
+ghost use Rattle.ep_parts.specs.Task.{IsExplicit, initial_of, problem_from};
+
+/// In a task without a fault all ground actions and the goal are among the agents and atoms of the initial state.
+pub fn ground_actions_fit()
+    ensures actions { (t : TaskTree) → HasNoFault t → IsExplicit t.init →
+        AllByRecursion (ActionFits (initial_of (declarations t) t.init)) (actions_of (declarations t) t.schemas) }
+    ensures goal { (t : TaskTree) → HasNoFault t → IsExplicit t.init →
+        Fits (initial_of (declarations t) t.init) (problem_from (declarations t) t).goal }
+{}

@@ -1,5 +1,5 @@
 -- What joins the parts of a ground task.
-use Rattle.std.proofs.Common.{◌≡◌, ◌≢◌, ℕ, ◌<◌, ◌≤◌, Bool, true, false, cond, nat_lt, ◌⊎◌, inl, inr, List, [], ◌∷◌, ◌++◌, Option, Some, None, Result, Ok, Err, length, map, get_or, All, refl, ap, sym, ◌∙◌, subst, arith}
+use Rattle.std.proofs.Common.{IfErr, IsErrAnd, ◌≡◌, ◌≢◌, ℕ, ◌<◌, ◌≤◌, Bool, true, false, cond, nat_lt, ◌⊎◌, inl, inr, List, [], ◌∷◌, ◌++◌, Option, Some, None, Result, Ok, Err, length, map, get_or, All, refl, ap, sym, ◌∙◌, subst, arith}
 use Rattle.std.specs.List.{flat_map}
 use Rattle.std.proofs.lemmas.Bool.Decides.{nat_tests}
 use Rattle.std.proofs.lemmas.List.{length-append, length-map}
@@ -161,3 +161,8 @@ named t h few =
 pub same_task : (t : TaskTree) (agents atoms actions : List Text) (problem : PlanningTask) → agents ≡ agent_names (declarations t) → atoms ≡ atom_names (declarations t) → actions ≡ action_names (declarations t) t.schemas →
     problem ≡ problem_from (declarations t) t → ◌≡◌ {A = GroundTask} (record { tree = t; agents = agents; atoms = atoms; actions = actions; problem = problem }) (task_of t)
 same_task t agents atoms actions problem e f g h = λ j. record { tree = t; agents = e j; atoms = f j; actions = g j; problem = h j }
+
+-- an error that is found is reported
+pub err_reports : {A : Type 0} (r : Result A GroundError) (e : GroundError) (o : Option GroundError) → IsErrAnd r (λ x. x ≡ e) → o ≡ Some e → IfErr r (Reports o)
+err_reports (Ok a) e o h k = tt
+err_reports (Err x) e o h k = subst (Reports o) (sym h) (reports_some o e k)

@@ -5,4 +5,4 @@ pub mod laws;
 mod task;
 
 pub use ep_parts::GroundError;
-pub use task::Task;
+pub use task::{Parts, Task, parts_of_task};

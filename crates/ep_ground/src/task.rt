@@ -1,16 +1,34 @@
 //! Ground tasks.
 
-ghost use Rattle.std.specs.Prelude.{◌≡◌, ◌≢◌, ◌<◌, All, AllPairs, IfNone, IfSome, Some, length, slice_get};
+ghost use Rattle.std.specs.Prelude.{◌≡◌, ◌≢◌, ◌<◌, ◌≤◌, All, AllPairs, IfErr, IfNone, IfOk, IfSome, None, OnOk, Some, length, slice_get};
 ghost use Rattle.ep_problem.specs.PlanningTask.{IsPlanningTask, IsSmall};
+ghost use Rattle.ep_types.specs.Names.{names_of};
 ghost use Rattle.ep_types.specs.Tasks.{HasNoFault, declarations};
-ghost use Rattle.ep_ground.specs.Grounding.{IsNamed};
+ghost use Rattle.ep_parts.specs.Actions.{actions_of};
+ghost use Rattle.ep_parts.specs.Faults.{Reports, init_fault};
+ghost use Rattle.ep_ground.specs.Grounding.{IsNamed, later_fault};
+ghost use Rattle.ep_parts.specs.Initial.{explicit_state};
+ghost use Rattle.ep_parts.specs.Links.{agent_count};
+ghost use Rattle.ep_parts.specs.PrintedNames as printed;
+ghost use Rattle.ep_parts.specs.Task.{IsExplicit, IsRead, initial_of, problem_from};
+ghost use Rattle.ep_parts.specs.Within.{IsWithinLimits};
+ghost use Rattle.ep_universe.specs.Atoms.{atoms_of};
 
 use ep_event::Action;
 use ep_kripke::State;
-use ep_logic::{ActionId, AgentId, AtomId, Formula, List, Text};
+use ep_logic::{ActionId, AgentId, AtomId, Formula, List, OutOfMemory, Text};
 use ep_name::NameTable;
+use ep_parts::initial::explicit_state;
+use ep_parts::names::{agent_names, atom_names, object_names};
+use ep_parts::schemas::ground_actions;
+use ep_parts::tables::action_table;
+use ep_parts::{GroundError, check_worlds};
 use ep_problem::Problem;
+use ep_syntax::InitTree;
 use ep_types::Typed;
+use ep_universe::formula::ground_form;
+use ep_universe::universe::Universe;
+use std::alloc::Global;
 use std::marker::Model;
 
 /// A ground task: the problem that a typed task poses, with the printed names of its agents, atoms and actions. Agents,
@@ -150,4 +168,148 @@ impl Task {
         let _tree = self.typed.tree();
         &self.typed
     }
+}
+
+/// The names of objects, agents and ground atoms.
+#[derive(Drop)]
+struct Names {
+    objects: List<Text>,
+    agents: List<Text>,
+    atoms: List<Text>,
+}
+
+/// What a ground task is made of beside its tree: the printed names of agents, atoms and actions, and the problem.
+#[derive(Drop)]
+pub struct Parts {
+    pub agents: List<Text>,
+    pub atoms: List<Text>,
+    pub actions: NameTable,
+    pub problem: Problem,
+}
+
+fn names_of_task(alloc: Global, typed: &Typed) -> Result<Names, OutOfMemory>
+    requires few { length (declarations typed.now).objects ≤ 64 }
+    requires fluents { length typed.now.fluents ≤ 262144 }
+    ensures objects { IfOk result (λ names. names.objects ≡ names_of (declarations typed.now).objects) }
+    ensures agents { IfOk result (λ names. names.agents ≡ printed.agent_names (declarations typed.now)) }
+    ensures atoms { IfOk result (λ names. names.atoms ≡ printed.atom_names (declarations typed.now)) }
+{
+    let objects = object_names(alloc, typed)?;
+    let agents = agent_names(alloc, typed, objects.as_slice())?;
+    let atoms = atom_names(alloc, typed, objects.as_slice())?;
+    Ok(Names {
+        objects,
+        agents,
+        atoms,
+    })
+}
+
+/// The ground actions, where none assigns to one atom twice and there are not too many worlds.
+fn sound_actions(
+    alloc: Global,
+    universe: &Universe,
+    typed: &Typed,
+    agents: u32,
+    names: &[Text],
+) -> Result<List<Action>, GroundError>
+    requires same { universe.now ≡ declarations typed.now }
+    requires read { IsRead typed.now }
+    requires within { IsWithinLimits universe.now typed.now }
+    requires agents { agents ≡ agent_count universe.now }
+    requires names { names.now ≡ names_of universe.now.objects }
+    ensures value { IfOk result (λ actions. actions ≡ actions_of universe.now typed.now.schemas) }
+    ensures sound { OnOk result (later_fault universe.now typed.now ≡ None) }
+    ensures worlds { OnOk result (init_fault typed.now.init ≡ None) }
+    ensures err { IfErr result (Reports (later_fault universe.now typed.now)) }
+{
+    let tree = typed.tree();
+    let actions = ground_actions(alloc, universe, agents, names, tree.schemas.as_slice())?;
+    check_worlds(&tree.init)?;
+    Ok(actions)
+}
+
+fn initial_state(
+    alloc: Global,
+    universe: &Universe,
+    typed: &Typed,
+    agents: u32,
+    atoms: u32,
+) -> Result<State, OutOfMemory>
+    requires same { universe.now ≡ declarations typed.now }
+    requires read { IsRead typed.now }
+    requires within { IsWithinLimits universe.now typed.now }
+    requires explicit { IsExplicit typed.now.init }
+    requires worlds { init_fault typed.now.init ≡ None }
+    requires agents { agents ≡ agent_count universe.now }
+    requires atoms { atoms ≡ length (atoms_of universe.now) }
+    ensures { IfOk result (λ state. state ≡ initial_of universe.now typed.now.init) }
+{
+    let InitTree::Explicit {
+        worlds,
+        designated,
+        links,
+    } = &typed.tree().init
+    else {
+        unreachable!()
+    };
+    explicit_state(
+        alloc,
+        universe,
+        agents,
+        atoms,
+        worlds.as_slice(),
+        designated.as_slice(),
+        links.as_slice(),
+    )
+}
+
+fn problem_of_task(
+    alloc: Global,
+    universe: &Universe,
+    typed: &Typed,
+    names: &Names,
+) -> Result<Problem, GroundError>
+    requires same { universe.now ≡ declarations typed.now }
+    requires read { IsRead typed.now }
+    requires within { IsWithinLimits universe.now typed.now }
+    requires explicit { IsExplicit typed.now.init }
+    requires objects { names.now.objects ≡ names_of universe.now.objects }
+    requires agents { names.now.agents ≡ printed.agent_names universe.now }
+    requires atoms { names.now.atoms ≡ printed.atom_names universe.now }
+    ensures value { IfOk result (λ problem. problem ≡ problem_from universe.now typed.now) }
+    ensures sound { OnOk result (later_fault universe.now typed.now ≡ None) }
+    ensures err { IfErr result (Reports (later_fault universe.now typed.now)) }
+{
+    let agents = names.agents.as_slice().len() as u32;
+    let atoms = names.atoms.as_slice().len() as u32;
+    let actions = sound_actions(alloc, universe, typed, agents, names.objects.as_slice())?;
+    let initial = initial_state(alloc, universe, typed, agents, atoms)?;
+    let goal = ground_form(alloc, universe, &typed.tree().goal, &[])?;
+    Ok(Problem::new(initial, actions, goal))
+}
+
+/// The parts of the ground task of a typed task that is within the limits. An error tells the first action that assigns
+/// to one atom twice, or too many worlds, or that there is no memory.
+pub fn parts_of_task(alloc: Global, typed: &Typed) -> Result<Parts, GroundError>
+    requires read { IsRead typed.now }
+    requires explicit { IsExplicit typed.now.init }
+    requires within { IsWithinLimits (declarations typed.now) typed.now }
+    ensures agents { IfOk result (λ parts. parts.agents ≡ printed.agent_names (declarations typed.now)) }
+    ensures atoms { IfOk result (λ parts. parts.atoms ≡ printed.atom_names (declarations typed.now)) }
+    ensures actions { IfOk result (λ parts. parts.actions ≡ printed.action_names (declarations typed.now) typed.now.schemas) }
+    ensures problem { IfOk result (λ parts. parts.problem ≡ problem_from (declarations typed.now) typed.now) }
+    ensures sound { OnOk result (later_fault (declarations typed.now) typed.now ≡ None) }
+    ensures err { IfErr result (Reports (later_fault (declarations typed.now) typed.now)) }
+{
+    let universe = Universe::new(alloc, typed)?;
+    let names = names_of_task(alloc, typed)?;
+    let schemas = typed.tree().schemas.as_slice();
+    let actions = action_table(alloc, &universe, names.objects.as_slice(), schemas)?;
+    let problem = problem_of_task(alloc, &universe, typed, &names)?;
+    Ok(Parts {
+        agents: names.agents,
+        atoms: names.atoms,
+        actions,
+        problem,
+    })
 }

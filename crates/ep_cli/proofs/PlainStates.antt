@@ -6,6 +6,7 @@ use Rattle.ep_kripke.specs.declared.parts.Link.{Link}
 use Rattle.ep_kripke.specs.declared.parts.StateParts.{StateParts}
 use Rattle.ep_kripke.specs.declared.parts.StateError.{StateError}
 use Rattle.ep_kripke.specs.declared.parts.StateError.TheVariants as error
+use Rattle.ep_kripke.proofs.SameStates.{same_state}
 use Rattle.ep_kripke.specs.Parts.{link, world, IsMadeOf, fault_of, IsRefusal}
 use Rattle.ep_logic.specs.declared.ids.WorldId.{WorldId}
 use Rattle.ep_theory.specs.Kripke.{Kripke, IsState}
@@ -181,3 +182,17 @@ none_initial agents fluents worlds chosen links all e refused other S i small =
     let fault = refusal_is_fault (parts_of agents fluents worlds chosen all) e refused other in
     let clash : None ≡ Some e = sym none ∙ fault in
     cc
+
+-- ---- no two states meet the definition
+
+pub one_initial : (agents : ℕ) (fluents : List FluentTree) (worlds : List WorldTree) (chosen : List Name) (links : List LinkTree) (S R : Kripke)
+    → IsInitial agents fluents worlds chosen links S → IsInitial agents fluents worlds chosen links R → S ≡ R
+one_initial agents fluents worlds chosen links S R s r = same_state S R s.valid r.valid (record {
+  agents = s.agent_count ∙ sym r.agent_count;
+  atoms = s.atom_count ∙ sym r.atom_count;
+  truth = s.truth ∙ sym r.truth;
+  links = λ a w v i. (r.linked a w v).1 ((s.linked a w v).0 i);
+  links_back = λ a w v i. (s.linked a w v).1 ((r.linked a w v).0 i);
+  designated = λ w i. (r.designated w).1 ((s.designated w).0 i);
+  designated_back = λ w i. (s.designated w).1 ((r.designated w).0 i);
+})

@@ -16,6 +16,7 @@ use Rattle.ep_syntax.specs.declared.tree.TaskTree.{TaskTree}
 use Rattle.ep_syntax.specs.declared.tree.InitTree.{InitTree}
 use Rattle.ep_syntax.specs.declared.tree.InitTree.TheVariants.{Explicit, Lawful}
 use Rattle.ep_cli.specs.Plain.{StartsIn, IsPlainTask}
+use Rattle.ep_cli.proofs.PlainStates.{one_initial}
 use Rattle.ep_cli.specs.PlainParts.{HasPlainForm, IsGoal, GoalFound, StateFound}
 
 -- ---- how many fluents
@@ -107,3 +108,12 @@ plain_found_by t u agents fluents goal state S f same count are form size g is f
     let starts_all = subst (λ n. StartsIn n fluents t.init S) count starts in
     plain_found t S f (subst HasPlainForm same form) size (subst (λ (x : TaskTree). IsGoal (declarations t) x.goal f) same known) formula
     (subst (λ fs. StartsIn (length (declarations t).objects) fs t.init S) fluents_are starts_all) found.1
+
+-- ---- no two tasks are the plain task of a tree
+
+pub one_start : (agents : ℕ) (fluents : List FluentTree) (init : InitTree) (S R : Kripke) → StartsIn agents fluents init S → StartsIn agents fluents init R → S ≡ R
+one_start agents fluents (Explicit worlds chosen links) S R s r = one_initial agents fluents worlds chosen links S R s r
+one_start agents fluents (Lawful vary facts law sees chosen) S R s r = absurd s
+
+pub one_goal : (found : Option Node) (f g : Node) → found ≡ Some f → found ≡ Some g → f ≡ g
+one_goal found f g p q = cc

@@ -1,10 +1,6 @@
 -- The commands that are built, and their words.
-use Rattle.std.specs.Prelude.{◌≡◌, ◌≢◌, ℕ, List, [], ◌∷◌, codes}
-
--- not empty, and does not begin with `-`
-abbrev pub IsFileWord : List ℕ → Type 0
-IsFileWord [] = ⊥
-IsFileWord (first ∷ rest) = first ≢ 45
+use Rattle.std.specs.Prelude.{◌≡◌, ℕ, List, [], ◌∷◌, codes}
+use Rattle.ep_words.specs.Words.{IsFileWord}
 
 -- a command, with the names of its files
 pub data Command : Type 0 where

@@ -1,15 +1,8 @@
 // The words that are built.
-ghost use Rattle.std.specs.Prelude.{◌≡◌, ◌↔◌, ℕ, List, IsTrue, MatchOption, map, string_bytes};
-ghost use Rattle.ep_cli.specs.Built.{IsFileWord, IsCommand, Command, PlanAtZero};
+ghost use Rattle.std.specs.Prelude.{◌≡◌, ℕ, List, MatchOption, map, string_bytes};
+ghost use Rattle.ep_cli.specs.Built.{IsCommand, PlanAtZero};
 
-fn is_file_word(word: &str) -> bool
-    ensures { IsTrue result ↔ IsFileWord word.now }
-{
-    match word.as_bytes() {
-        [] => false,
-        [first, ..] => *first != b'-',
-    }
-}
+use ep_words::is_file_word;
 
 /// The file of `plan FILE --depth 0`, where these are the words.
 pub fn plan_at_zero_words(words: &[String]) -> Option<&str>

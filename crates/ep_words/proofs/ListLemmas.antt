@@ -1,5 +1,5 @@
 -- A mapped list from its first items.
-use Rattle.std.proofs.Common.{rules, ◌≡◌, ℕ, ◌<◌, ◌≤◌, ◌-◌, List, [], ◌∷◌, map, length, take, drop, get_or, arith, sym, ap}
+use Rattle.std.proofs.Common.{◌≡◌, ◌<◌, ◌≤◌, ◌-◌, List, [], ◌∷◌, map, length, take, drop, get_or, arith}
 use Rattle.std.proofs.lemmas.List.{take_all}
 
 module _ {A B : Type 0} (f : A → B) where

@@ -1,9 +1,9 @@
 -- A plain text that parses is the decimal of its number, and the decimal of a number is plain and parses.
-use Rattle.std.proofs.Common.{rules, ◌≡◌, ◌≢◌, ℕ, zero, suc, ◌<◌, ◌≤◌, ◌^◌, ◌+◌, List, [], ◌∷◌, length, decimal, Result, Ok, Err, arith, subst, sym, ap, ◌∙◌}
+use Rattle.std.proofs.Common.{rules, ◌≡◌, ◌≢◌, ℕ, zero, suc, ◌<◌, ◌^◌, List, [], ◌∷◌, length, decimal, Result, Ok, Err, arith, subst, sym, ap, ◌∙◌}
 use lib.ListN.{get_or}
 use Rattle.std.specs.Str.Parse.{ParsesUnsigned, IsNumeral, digits_value, without_leading_plus, AllDigits}
 use Rattle.std.proofs.lemmas.Str.Parse.{numerals_by_value, tells_digits, without_leading_plus_none}
-use Rattle.std.proofs.lemmas.Fmt.{decimal-digits_value, decimal_digit, decimal_nonempty, first_decimal, parse-decimal}
+use Rattle.std.proofs.lemmas.Fmt.{decimal-digits_value, decimal_digit, decimal_nonempty, first_decimal}
 use Rattle.ep_words.specs.Numerals.{IsPlain}
 
 plain_first : (bs : List ℕ) → IsPlain bs → (get_or bs 0 0 ≢ 43) × (0 < length bs) × (get_or bs 0 0 ≡ 48 → length bs ≡ 1)

@@ -1,8 +1,6 @@
 -- Words are those of at most one command.
-use Rattle.std.proofs.Common.{rules, Option, Some, None, Result, Ok, Err, MatchOption, IfOk, ok_or, ◌≡◌, ◌≢◌, ℕ, ◌<◌, ◌≤◌, List, [], ◌∷◌, decimal, codes, arith, subst, sym, ap, ◌∙◌}
+use Rattle.std.proofs.Common.{rules, Option, Some, None, Result, MatchOption, IfOk, ok_or, ◌≡◌, List, [], ◌∷◌, arith, subst, sym, ap, ◌∙◌}
 use Rattle.std.proofs.lemmas.Fmt.{decimal_injective}
-use Rattle.ep_words.specs.declared.options.PlanOption.{PlanOption}
-use Rattle.ep_words.specs.declared.options.Options.{Options}
 use Rattle.ep_words.specs.declared.command.Command.{Command}
 use Rattle.ep_words.specs.declared.command.Usage.{Usage}
 use Rattle.ep_words.specs.declared.command.Command.TheVariants.{Plan, Validate, Eval, State, Contract, Same, Check, Trial}

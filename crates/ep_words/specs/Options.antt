@@ -1,5 +1,5 @@
 -- The options of `plan`. This project's own.
-use Rattle.std.specs.Prelude.{◌≡◌, ℕ, zero, suc, ◌≤◌, Bool, true, false, List, [], ◌∷◌, Option, None, Some, unwrap_or, codes, decimal}
+use Rattle.std.specs.Prelude.{◌≡◌, ℕ, zero, suc, ◌≤◌, true, false, List, [], ◌∷◌, None, Some, unwrap_or, codes, decimal}
 use Rattle.ep_words.specs.declared.options.PlanOption.{PlanOption}
 use Rattle.ep_words.specs.declared.options.PlanOption.TheVariants.{Depth, States, Worlds, Guide, First}
 use Rattle.ep_words.specs.declared.options.Options.{Options}

@@ -1,7 +1,6 @@
 -- The words of each command. This project's own.
-use Rattle.std.specs.Prelude.{◌≡◌, ◌≢◌, ◌⊎◌, ℕ, ◌≤◌, Bool, List, [], ◌∷◌, codes, decimal}
+use Rattle.std.specs.Prelude.{◌≡◌, ◌≢◌, ◌⊎◌, ◌≤◌, List, [], ◌∷◌, codes, decimal}
 use Rattle.ep_words.specs.declared.options.Options.{Options}
-use Rattle.ep_words.specs.declared.command.Bounds.{Bounds}
 use Rattle.ep_words.specs.declared.command.Command.{Command}
 use Rattle.ep_words.specs.declared.command.Command.TheVariants.{Plan, Validate, Eval, State, Contract, Same, Check, Trial}
 use Rattle.ep_words.specs.Options.{Word, no_options, AreOptions, plan_of}

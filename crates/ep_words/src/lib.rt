@@ -7,7 +7,7 @@ mod options;
 mod words;
 
 pub use command::{Bounds, Command, Usage};
-pub use words::read_words;
+pub use words::{is_file_word, read_words};
 
 #[cfg(test)]
 mod tests;

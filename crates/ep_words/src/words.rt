@@ -9,7 +9,8 @@ use crate::command::{Command, Usage};
 use crate::number::number;
 use crate::options::{Options, read_options};
 
-fn is_file(word: &str) -> bool
+/// Whether a word can name a file: it is not empty, and does not begin with `-`.
+pub fn is_file_word(word: &str) -> bool
     ensures { IsTrue result ↔ IsFileWord word.now }
 {
     match word.as_bytes() {
@@ -21,14 +22,14 @@ fn is_file(word: &str) -> bool
 fn is_plan(word: &str) -> bool
     ensures { IsTrue result ↔ IsPlanWord word.now }
 {
-    word == "-" || is_file(word)
+    word == "-" || is_file_word(word)
 }
 
 fn is_task(words: &[String]) -> bool
     ensures { IsTrue result ↔ IsTask (map string_bytes words.now) }
 {
     match words {
-        [file] => is_file(file.as_str()),
+        [file] => is_file_word(file.as_str()),
         _ => false,
     }
 }
@@ -37,7 +38,7 @@ fn is_task_and_plan(words: &[String]) -> bool
     ensures { IsTrue result ↔ IsTaskAndPlan (map string_bytes words.now) }
 {
     match words {
-        [file, plan] => is_file(file.as_str()) && is_plan(plan.as_str()),
+        [file, plan] => is_file_word(file.as_str()) && is_plan(plan.as_str()),
         _ => false,
     }
 }
@@ -47,7 +48,7 @@ fn is_task_and_plans(words: &[String]) -> bool
 {
     match words {
         [file, one, two] => {
-            is_file(file.as_str()) && is_plan(one.as_str()) && is_plan(two.as_str())
+            is_file_word(file.as_str()) && is_plan(one.as_str()) && is_plan(two.as_str())
         }
         _ => false,
     }
@@ -57,7 +58,7 @@ fn is_task_plan_and_formula(words: &[String]) -> bool
     ensures { IsTrue result ↔ IsTaskPlanAndFormula (map string_bytes words.now) }
 {
     match words {
-        [file, plan, _] => is_file(file.as_str()) && is_plan(plan.as_str()),
+        [file, plan, _] => is_file_word(file.as_str()) && is_plan(plan.as_str()),
         _ => false,
     }
 }
@@ -81,7 +82,7 @@ fn planned(words: &[String]) -> Option<Command>
     let [file, options @ ..] = words else {
         return None;
     };
-    if !is_file(file.as_str()) {
+    if !is_file_word(file.as_str()) {
         return None;
     }
     let all = read_options(options, Options::none())?;

@@ -1,4 +1,4 @@
-use Rattle.std.proofs.Common.{rules, ◌≡◌, ◌≢◌, ◌≤◌, ◌^◌, ◌<◌, ℕ, Ok, IsTrue, MatchOption, decimal, arith, true}
+use Rattle.std.proofs.Common.{rules, ◌^◌, ◌<◌, arith}
 use Rattle.std.proofs.lemmas.Fmt.{parse-decimal}
 use Rattle.ep_words.proofs.NumberLemmas.{number_is_plain}
 use Rattle.ep_words.proofs.number.number.Goals as goal

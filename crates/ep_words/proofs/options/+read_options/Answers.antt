@@ -1,5 +1,5 @@
-use Rattle.std.proofs.Common.{rules, ◌≡◌, List, [], ◌∷◌, ◌-◌, ◌∙◌, map, string_bytes, length, take, drop, sym, ap}
-use Rattle.ep_words.specs.Options.{option_words, AreOptions, and_option}
+use Rattle.std.proofs.Common.{rules, ◌≡◌, [], ◌∷◌, map, string_bytes}
+use Rattle.ep_words.specs.Options.{option_words}
 use Rattle.ep_words.proofs.ListLemmas.{map-none, map-two}
 use Rattle.ep_words.proofs.OptionLemmas.{read_on, read_none}
 use Rattle.ep_words.proofs.options.+read_options.Goals as goal

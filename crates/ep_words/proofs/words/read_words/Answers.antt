@@ -1,4 +1,4 @@
-use Rattle.std.proofs.Common.{rules, ◌≡◌, ◌∷◌, ◌-◌, ◌∙◌, IfOk, map, string_bytes, length, take, drop, ap, sym}
+use Rattle.std.proofs.Common.{◌∷◌, ◌-◌, ◌∙◌, map, string_bytes, length, take, drop, ap, sym}
 use Rattle.ep_words.proofs.ListLemmas.{map-one}
 use Rattle.ep_words.proofs.WordLemmas.{only_if_command}
 use Rattle.ep_words.proofs.words.read_words.Goals as goal

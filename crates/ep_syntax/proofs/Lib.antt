@@ -23,3 +23,5 @@ pub mod DeclarationLaws
 pub mod InitialLaws
 pub mod ActionLaws
 pub mod TaskLaws
+pub mod CountLaws
+pub mod PlanLaws

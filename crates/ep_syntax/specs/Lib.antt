@@ -9,5 +9,6 @@ pub mod Grammar
 pub mod Reading
 pub mod FormulaReading
 pub mod TaskReading
+pub mod PlanReading
 pub mod Gives
 pub mod Answers

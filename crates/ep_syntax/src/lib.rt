@@ -9,6 +9,7 @@ mod formula;
 mod initial;
 pub mod layout;
 mod parse;
+mod plan;
 mod print;
 mod printer;
 mod read;
@@ -17,6 +18,7 @@ pub mod terminal;
 pub mod tree;
 
 pub use error::SyntaxError;
+pub use plan::read_plan_lines;
 pub use print::print_task;
 pub use read::{read_formula, read_task};
 pub use terminal::Terminal;

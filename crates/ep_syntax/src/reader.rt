@@ -2,10 +2,13 @@
 
 ghost use Rattle.std.specs.Prelude.{◌≡◌, ◌≤◌, ◌+◌, IsTrue, IfSome, IfOk, length, drop};
 ghost use Rattle.std.specs.Option.{option_map};
+ghost use Rattle.std.specs.Str.Parse.{digits_value};
 ghost use Rattle.ep_lex.specs.Pieces.{is_piece};
 ghost use Rattle.ep_lex.specs.Tokens.{spelling};
 ghost use Rattle.ep_lex.specs.declared.token.PieceKind.TheVariants as piece;
+ghost use Rattle.ep_lex.specs.declared.token.TokenKind.TheVariants as kinds;
 ghost use Rattle.ep_syntax.specs.Gives.{Gives, place_at, all_sound};
+ghost use Rattle.ep_syntax.specs.PlanReading as plan_reading;
 ghost use Rattle.ep_syntax.specs.Reading as reading;
 ghost use Rattle.ep_syntax.specs.Terminals as terminals;
 
@@ -53,6 +56,28 @@ fn is_name(kind: TokenKind, text: &[u8]) -> bool
         TokenKind::Number => false,
         TokenKind::Mark => false,
     }
+}
+
+fn is_count(kind: TokenKind, text: &[u8]) -> bool
+    requires { IsTrue (is_piece (piece.Spelling kind) text.now) }
+    ensures { result ≡ plan_reading.is_count text.now }
+{
+    match kind {
+        TokenKind::Number => text[0] != b'0' || text.len() == 1,
+        TokenKind::Word => false,
+        TokenKind::Mark => false,
+    }
+}
+
+fn value_of(digits: &[u8]) -> u32
+    requires { IsTrue (is_piece (piece.Spelling kinds.Number) digits.now) }
+    ensures { result ≡ digits_value 10 digits.now }
+{
+    let mut value = 0;
+    for digit in digits {
+        value = value * 10 + u32::from(*digit - b'0');
+    }
+    value
 }
 
 fn copied(alloc: Global, text: &[u8]) -> Result<Text, OutOfMemory>
@@ -174,6 +199,22 @@ impl<'a> Reader<'a> {
         let text = copied(alloc, text)?;
         self.at += 1;
         Ok(Name { token, text })
+    }
+
+    /// A number without a leading zero, but `0` itself.
+    pub fn count(&mut self) -> Result<u32, SyntaxError>
+        ensures { Gives plan_reading.count self.old result self.new }
+    {
+        let token = self.at;
+        let Some((kind, text)) = self.ahead(0) else {
+            return Err(SyntaxError::Syntax { token });
+        };
+        if !is_count(kind, text) {
+            return Err(SyntaxError::Syntax { token });
+        }
+        let value = value_of(text);
+        self.at += 1;
+        Ok(value)
     }
 
     /// Nothing is left.

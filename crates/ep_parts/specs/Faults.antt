@@ -2,8 +2,7 @@
 use Rattle.std.specs.Prelude.{◌≡◌, ℕ, ◌+◌, ◌*◌, Bool, ◌&&◌, nat_eq, nat_lt, List, [], ◌∷◌, length, map, sum, Option, Some, None, if◌then◌else◌}
 use Rattle.ep_logic.specs.declared.formula.Node.{Node}
 use Rattle.ep_theory.specs.Events.{EventModel}
-use Rattle.ep_syntax.specs.declared.tree.InitTree.{InitTree}
-use Rattle.ep_syntax.specs.declared.tree.InitTree.TheVariants.{Explicit, Lawful}
+use Rattle.ep_syntax.specs.declared.tree.WorldTree.{WorldTree}
 use Rattle.ep_syntax.specs.declared.tree.BodyTree.{BodyTree}
 use Rattle.ep_syntax.specs.declared.tree.BodyTree.TheVariants.{Announce, Private, Sense, Assign, Events}
 use Rattle.ep_syntax.specs.declared.tree.SchemaTree.{SchemaTree}
@@ -69,9 +68,9 @@ abbrev pub Reports : Option GroundError → GroundError → Type 0
 Reports found fault.OutOfMemory = Unit {0}
 Reports found e = found ≡ Some e
 
-abbrev pub init_fault : InitTree → Option GroundError
-init_fault (Explicit worlds designated links) = above 256 fault.TooManyWorlds (length worlds)
-init_fault (Lawful vary facts law sees designated) = None
+-- worlds of an explicit initial state
+abbrev pub explicit_fault : List WorldTree → Option GroundError
+explicit_fault worlds = above 256 fault.TooManyWorlds (length worlds)
 
 -- the first row that holds
 abbrev pub first_of : List (Option GroundError) → Option GroundError
@@ -90,11 +89,4 @@ limit_fault d t = first_of (
     ∷ too_many_events 0 t.schemas
     ∷ too_large d (task_formulas d t)
     ∷ above 1000000 fault.TooLargeTask (node_total d (task_formulas d t))
-    ∷ [])
-
-abbrev pub fault_of : Declared → TaskTree → Option GroundError
-fault_of d t = first_of (
-    limit_fault d t
-    ∷ atom_twice (action_names d t.schemas) (actions_of d t.schemas)
-    ∷ init_fault t.init
     ∷ [])

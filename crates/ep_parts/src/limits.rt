@@ -16,7 +16,7 @@ ghost use Rattle.ep_parts.specs.declared.fault.GroundError.TheVariants.{NoAgent,
 use crate::counts::action_count;
 use crate::fault::GroundError;
 use crate::written::{node_total, task_formulas};
-use ep_syntax::{BodyTree, InitTree, SchemaTree};
+use ep_syntax::{BodyTree, SchemaTree, WorldTree};
 use ep_types::Typed;
 use ep_universe::atoms::atom_count;
 use ep_universe::objects::objects_of;
@@ -142,14 +142,11 @@ pub fn check_limits(alloc: Global, typed: &Typed) -> Result<(), GroundError>
     check_rows(alloc, typed)
 }
 
-/// Whether an explicit initial state has at most 256 worlds. The lawful form is not judged here.
-pub fn check_worlds(init: &InitTree) -> Result<(), GroundError>
-    ensures { result ≡ told (faults.init_fault init.now) }
+/// Whether an explicit initial state has at most 256 worlds.
+pub fn check_worlds(worlds: &[WorldTree]) -> Result<(), GroundError>
+    ensures { result ≡ told (faults.explicit_fault worlds.now) }
 {
-    let InitTree::Explicit { worlds, .. } = init else {
-        return Ok(());
-    };
-    let count = worlds.as_slice().len();
+    let count = worlds.len();
     if count > 256 {
         return Err(GroundError::TooManyWorlds {
             count: count as u64,

@@ -1,7 +1,7 @@
 use crate::names::object_names;
 use crate::{GroundError, check_worlds};
 use ep_lex::tokens;
-use ep_syntax::read_task;
+use ep_syntax::{InitTree, WorldTree, read_task};
 use ep_types::{Typed, check};
 use std::alloc::Global;
 use std::process::Abort;
@@ -18,6 +18,13 @@ fn typed(rt: &impl Abort, alloc: Global, text: &str) -> Result<Typed, Fail> {
 const FAMILY: &str =
     "task family; types { child < agent; } objects { ann, bob : agent; kid : child; } fluents { } \
     init { world o { } designated { o } } goal true;";
+
+fn worlds_of(init: &InitTree) -> Option<&[WorldTree]> {
+    match init {
+        InitTree::Explicit { worlds, .. } => Some(worlds.as_slice()),
+        InitTree::Lawful { .. } => None,
+    }
+}
 
 #[test]
 fn names_of_objects(rt: HostRuntime) -> Result<(), Fail> {
@@ -48,7 +55,7 @@ fn most_worlds(rt: HostRuntime) -> Result<(), Fail> {
     for (count, most) in [(1, true), (256, true), (257, false)] {
         let text = worlds(rt.alloc(), count)?;
         let typed = typed(&rt, rt.alloc(), text.as_str())?;
-        let judged = check_worlds(&typed.tree().init);
+        let judged = check_worlds(worlds_of(&typed.tree().init).ok_or("no worlds")?);
         assert_eq!(rt; judged.is_ok(), most);
         assert!(rt; most || matches!(judged, Err(GroundError::TooManyWorlds { count: 257 })));
     }

@@ -1,5 +1,5 @@
 -- The numbers of a list, one more at a time.
-use Rattle.std.proofs.Common.{◌≡◌, ℕ, Bool, true, false, cond, not, ◌||◌, ◌==◌, ◌+◌, ◌<◌, List, [], ◌∷◌, ◌++◌, filter, length, get_or, take, refl, ap, sym, ◌∙◌, inl, inr, arith, append-nil}
+use Rattle.std.proofs.Common.{◌≡◌, ℕ, Bool, true, false, cond, not, ◌||◌, ◌==◌, ◌+◌, ◌<◌, List, [], ◌∷◌, ◌++◌, filter, length, get_or, take, refl, ap, sym, ◌∙◌, subst, inl, inr, arith, append-nil}
 use Rattle.std.proofs.lemmas.Bool.{ne_eqb, cases_eq}
 use Rattle.std.proofs.lemmas.List.{take_more}
 use Rattle.ep_theory.specs.Numbers.{has_number}
@@ -19,31 +19,29 @@ other_stays x y (z ∷ zs) d = elim (cases_eq z x) [
   | inr n ↦ rw (ne_eqb z x n) (ap (λ b. (z == y) || b) (other_stays x y zs d))
 ]
 
-with_new-true : (xs : List ℕ) (x : ℕ) → has_number xs x ≡ true → with_new xs x ≡ xs
-with_new-true xs x h = rw h refl
+module _ (x y : ℕ) (ds : List ℕ) where
+  abbrev kept : List ℕ
+  kept = filter (λ z. not (z == x)) ds
 
-with_new-false : (xs : List ℕ) (x : ℕ) → has_number xs x ≡ false → with_new xs x ≡ xs ++ x ∷ []
-with_new-false xs x h = rw h refl
+  here : (b : Bool) → x ∷ filter (λ z. not (z == x)) (cond b ds (ds ++ x ∷ [])) ≡ x ∷ kept
+  here true = refl
+  here false = ap (λ zs. x ∷ zs) (filter-push (λ z. not (z == x)) ds x ∙ ap (λ b. kept ++ cond (not b) (x ∷ []) []) (test_itself x) ∙ append-nil kept)
 
-step : (x y : ℕ) (ds : List ℕ) → x ∷ filter (λ z. not (z == x)) (with_new ds y) ≡ with_new (x ∷ filter (λ z. not (z == x)) ds) y
-step x y ds = elim (cases_eq y x) [
-  | inl e ↦ rw e (by_here (has_number ds x))
-  | inr n ↦
-      let d : (x == y) ≡ false = ne_eqb x y (λ e. n (sym e)) in
-      let e : (y == x) ≡ false = ne_eqb y x n in
-      rw (d, other_stays x y ds d) (by_other e (has_number ds y))
-]
-  where
-    kept : List ℕ → List ℕ
-    kept xs = filter (λ z. not (z == x)) xs
+  here_new : with_new (x ∷ kept) x ≡ x ∷ kept
+  here_new = ap (λ b. cond (b || has_number kept x) (x ∷ kept) ((x ∷ kept) ++ x ∷ [])) (test_itself x)
 
-    by_here : (b : Bool) → x ∷ filter (λ z. not (z == x)) (cond b ds (ds ++ x ∷ [])) ≡ with_new (x ∷ filter (λ z. not (z == x)) ds) x
-    by_here true = rw (test_itself x) refl
-    by_here false = rw (filter-push (λ z. not (z == x)) ds x, test_itself x) (ap (λ zs. x ∷ zs) (append-nil (filter (λ z. not (z == x)) ds)))
+  other : (y == x) ≡ false → (b : Bool) → x ∷ filter (λ z. not (z == x)) (cond b ds (ds ++ y ∷ [])) ≡ cond b (x ∷ kept) ((x ∷ kept) ++ y ∷ [])
+  other e true = refl
+  other e false = ap (λ zs. x ∷ zs) (filter-push (λ z. not (z == x)) ds y ∙ ap (λ b. kept ++ cond (not b) (y ∷ []) []) e)
 
-    by_other : (y == x) ≡ false → (b : Bool) → x ∷ filter (λ z. not (z == x)) (cond b ds (ds ++ y ∷ [])) ≡ cond b (x ∷ filter (λ z. not (z == x)) ds) ((x ∷ filter (λ z. not (z == x)) ds) ++ y ∷ [])
-    by_other e true = refl
-    by_other e false = rw (filter-push (λ z. not (z == x)) ds y, e) refl
+  other_new : (x == y) ≡ false → with_new (x ∷ kept) y ≡ cond (has_number ds y) (x ∷ kept) ((x ∷ kept) ++ y ∷ [])
+  other_new d = ap (λ b. cond (b || has_number kept y) (x ∷ kept) ((x ∷ kept) ++ y ∷ [])) d ∙ ap (λ b. cond b (x ∷ kept) ((x ∷ kept) ++ y ∷ [])) (other_stays x y ds d)
+
+  step : x ∷ filter (λ z. not (z == x)) (with_new ds y) ≡ with_new (x ∷ kept) y
+  step = elim (cases_eq y x) [
+    | inl e ↦ subst (λ w. x ∷ filter (λ z. not (z == x)) (with_new ds w) ≡ with_new (x ∷ kept) w) (sym e) (here (has_number ds x) ∙ sym here_new)
+    | inr n ↦ other (ne_eqb y x n) (has_number ds y) ∙ sym (other_new (ne_eqb x y (λ e. n (sym e))))
+  ]
 
 -- one number more
 pub distinct-push : (xs : List ℕ) (y : ℕ) → distinct (xs ++ y ∷ []) ≡ with_new (distinct xs) y

@@ -1,6 +1,6 @@
 //! The truth of all atoms under each valuation of the varied ones.
 
-ghost use Rattle.std.specs.Prelude.{◌≡◌, IfOk, length};
+ghost use Rattle.std.specs.Prelude.{◌≡◌, ◌<◌, ◌==◌, IfOk, IfSome, length, position};
 ghost use Rattle.ep_lawful.specs.Valuations.{candidate_rows, filled, filled_rows, numbers_of, value_of};
 
 use crate::numbers::{marked, numbers_of};
@@ -54,12 +54,20 @@ fn row(
     Ok(row)
 }
 
+/// The place of an atom among the varied ones.
+fn place_of(varied: &[u32], atom: u32) -> Option<usize>
+    ensures place { result ≡ position (λ n. n == atom) varied.now }
+    ensures small { IfSome result (λ place. place < length varied.now) }
+{
+    varied.iter().position(|n| *n == atom)
+}
+
 /// The value of a varied atom, and what is said otherwise of any other.
 fn value_of(varied: &[u32], valuation: &[bool], atom: u32, otherwise: bool) -> bool
     requires { length valuation.now ≡ length varied.now }
     ensures { result ≡ value_of varied.now valuation.now atom otherwise }
 {
-    match varied.iter().position(|n| *n == atom) {
+    match place_of(varied, atom) {
         Some(place) => valuation[place],
         None => otherwise,
     }

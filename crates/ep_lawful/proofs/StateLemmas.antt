@@ -8,7 +8,7 @@ use Rattle.ep_theory.specs.Kripke.{Kripke, IsState, pair_cmp}
 use Rattle.ep_theory.specs.Numbers.{numbers_where, pairs_within, pairs_where, table}
 use Rattle.ep_theory.specs.Rising.{IsIn, IsRising}
 use Rattle.ep_theory.proofs.Lists.{All-from_each}
-use Rattle.ep_theory.proofs.NumbersLemmas.{length-table, get_or-table, from_table, from_pairs, rising_pairs}
+use Rattle.ep_theory.proofs.NumbersLemmas.{length-table, get_or-table, from_table, from_numbers, from_pairs, rising_numbers, rising_pairs}
 use Rattle.ep_kripke.specs.Rows.{all_pairs, row_pairs}
 use Rattle.ep_kripke.specs.States.{HaveRows, IsBounded, state_of}
 use Rattle.ep_kripke.proofs.RowsLemmas.{row_pairs-chosen}
@@ -46,6 +46,17 @@ pub record AreWorlds (atoms : ℕ) (rows : List (List Bool)) (ids : List ℕ) : 
   pub rising : IsRising nat_cmp ids
   pub within : AllByRecursion (λ w. w < length rows) ids
   pub some_id : 0 < length ids
+
+-- where the designated ones are chosen by a test
+pub chosen_worlds : (atoms : ℕ) (rows : List (List Bool)) (p : ℕ → Bool) → AllByRecursion (λ row. length row ≡ atoms) rows → 0 < length (numbers_where p (length rows)) →
+    AreWorlds atoms rows (numbers_where p (length rows))
+chosen_worlds atoms rows p long h = record {
+  some = let few = few_numbers p (length rows) in omega (arith, h, few);
+  long = long;
+  rising = rising_numbers p (length rows);
+  within = All-from_each (λ w. w < length rows) (numbers_where p (length rows)) (λ w i. (from_numbers p (length rows) w i).0);
+  some_id = h;
+}
 
 module _ (agents atoms : ℕ) (rows : List (List Bool)) (linked : ℕ → ℕ → ℕ → Bool) (ids : List ℕ) where
   abbrev pub S : Kripke

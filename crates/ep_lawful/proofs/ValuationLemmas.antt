@@ -65,3 +65,7 @@ module _ (n : ℕ) (varied facts : List ℕ) (rows : List (List Bool)) (e : rows
 
 pub long_kept : (n : ℕ) (p : List Bool → Bool) (rows : List (List Bool)) → AllByRecursion (λ row. length row ≡ n) rows → AllByRecursion (λ row. length row ≡ n) (filter p rows)
 long_kept n p rows h = All-from_each (λ row. length row ≡ n) (filter p rows) (λ row i. at_All (λ row. length row ≡ n) row rows h (from_filter p row rows i).0)
+
+pub long_ok : {E : Type 0} (n : ℕ) (rows : List (List Bool)) → AllByRecursion (λ row. length row ≡ n) rows → (r : Result (List (List Bool)) E) → IfOk r (λ kept. kept ≡ rows) → IfOk r (AllByRecursion (λ row. length row ≡ n))
+long_ok n rows h (Ok kept) e = subst (AllByRecursion (λ row. length row ≡ n)) (sym e) h
+long_ok n rows h (Err x) e = tt

@@ -1,0 +1,57 @@
+-- Lists one item more at a time, tables, and numbers that pass a test.
+use Rattle.std.proofs.Common.{◌≡◌, ℕ, zero, suc, ◌+◌, ◌*◌, ◌<◌, ◌≤◌, Bool, true, false, cond, List, [], ◌∷◌, ◌++◌, length, get_or, map, filter, take, refl, ap, sym, ◌∙◌, arith, append-nil}
+use Rattle.std.proofs.lemmas.List.{take_more, map-append, length-append}
+use Rattle.ep_theory.specs.Numbers.{numbers_where, table}
+
+-- an item more of a list that is mapped
+pub map_more : {Y Z : Type 0} (f : Y → Z) (ys : List Y) (i : ℕ) (y : Y) → i < length ys → y ≡ get_or ys i y → map f (take (i + 1) ys) ≡ map f (take i ys) ++ f y ∷ []
+map_more f ys i y l here = ap (map f) (take_more ys i y l) ∙ map-append f (take i ys) (get_or ys i y ∷ []) ∙ ap (λ z. map f (take i ys) ++ f z ∷ []) (sym here)
+
+pub filter-push : {X : Type 0} (p : X → Bool) (xs : List X) (x : X) → filter p (xs ++ x ∷ []) ≡ filter p xs ++ cond (p x) (x ∷ []) []
+filter-push p [] x = refl
+filter-push p (y ∷ ys) x = ap (λ zs. cond (p y) (y ∷ zs) zs) (filter-push p ys x) ∙ by (p y)
+  where
+    by : (b : Bool) → cond b (y ∷ (filter p ys ++ cond (p x) (x ∷ []) [])) (filter p ys ++ cond (p x) (x ∷ []) []) ≡ cond b (y ∷ filter p ys) (filter p ys) ++ cond (p x) (x ∷ []) []
+    by true = refl
+    by false = refl
+
+-- an item more of a list that is filtered, which passes or not
+pub filter_keep : {X : Type 0} (p : X → Bool) (xs : List X) (i : ℕ) (x : X) → i < length xs → x ≡ get_or xs i x → p x ≡ true → filter p (take (i + 1) xs) ≡ filter p (take i xs) ++ x ∷ []
+filter_keep p xs i x l here h =
+    ap (filter p) (take_more xs i x l) ∙ ap (λ z. filter p (take i xs ++ z ∷ [])) (sym here) ∙ filter-push p (take i xs) x
+    ∙ ap (λ b. filter p (take i xs) ++ cond b (x ∷ []) []) h
+
+pub filter_drop : {X : Type 0} (p : X → Bool) (xs : List X) (i : ℕ) (x : X) → i < length xs → x ≡ get_or xs i x → p x ≡ false → filter p (take (i + 1) xs) ≡ filter p (take i xs)
+filter_drop p xs i x l here h =
+    ap (filter p) (take_more xs i x l) ∙ ap (λ z. filter p (take i xs ++ z ∷ [])) (sym here) ∙ filter-push p (take i xs) x
+    ∙ ap (λ b. filter p (take i xs) ++ cond b (x ∷ []) []) h ∙ append-nil (filter p (take i xs))
+
+-- tables of equal values
+pub table-same : {X : Type 0} (f g : ℕ → X) (n : ℕ) → ((i : ℕ) → i < n → f i ≡ g i) → table f n ≡ table g n
+table-same f g zero h = refl
+table-same f g (suc n) h = rw (table-same f g n (λ i l. h i (omega arith)), h n (omega arith)) refl
+
+pub map-table : {X Y : Type 0} (f : X → Y) (g : ℕ → X) (n : ℕ) → map f (table g n) ≡ table (λ i. f (g i)) n
+map-table f g zero = refl
+map-table f g (suc n) = map-append f (table g n) (g n ∷ []) ∙ ap (λ ys. ys ++ f (g n) ∷ []) (map-table f g n)
+
+-- tests that agree below n choose the same numbers
+pub numbers-same : (p q : ℕ → Bool) (n : ℕ) → ((i : ℕ) → i < n → p i ≡ q i) → numbers_where p n ≡ numbers_where q n
+numbers-same p q zero h = refl
+numbers-same p q (suc n) h = rw (h n (omega arith), numbers-same p q n (λ i l. h i (omega arith))) refl
+
+pub numbers-none : (n : ℕ) → numbers_where (λ _. false) n ≡ []
+numbers-none zero = refl
+numbers-none (suc n) = append-nil (numbers_where (λ _. false) n) ∙ numbers-none n
+
+pub few_numbers : (p : ℕ → Bool) (n : ℕ) → length (numbers_where p n) ≤ n
+few_numbers p zero = omega arith
+few_numbers p (suc n) =
+    let long = length-append (numbers_where p n) (cond (p n) (n ∷ []) []) in
+    let rest = few_numbers p n in
+    let one = one_more (p n) n in
+    omega (arith, long, rest, one)
+  where
+    one_more : (b : Bool) (n : ℕ) → length (cond b (n ∷ []) []) ≤ 1
+    one_more true n = omega arith
+    one_more false n = omega arith

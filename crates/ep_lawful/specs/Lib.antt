@@ -1,0 +1,5 @@
+pub mod Faults
+pub mod Lawful
+pub mod Links
+pub mod Meeting
+pub mod Valuations

@@ -1,0 +1,16 @@
+//! The initial state of the lawful form.
+#![tactic(auto)]
+
+mod candidates;
+mod fault;
+mod lawful;
+mod links;
+mod meeting;
+mod numbers;
+mod valuations;
+
+pub use fault::LawfulError;
+pub use lawful::lawful_state;
+
+#[cfg(test)]
+mod tests;

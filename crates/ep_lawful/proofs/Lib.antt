@@ -3,6 +3,7 @@ pub mod FaultLemmas
 pub mod LinkLemmas
 pub mod ListLemmas
 pub mod MeetingLemmas
+pub mod ObjectiveLemmas
 pub mod RowLemmas
 pub mod StateLemmas
 pub mod ValuationLemmas

@@ -6,4 +6,5 @@ pub mod MeetingLemmas
 pub mod ObjectiveLemmas
 pub mod RowLemmas
 pub mod StateLemmas
+pub mod TypingLemmas
 pub mod ValuationLemmas

@@ -3,6 +3,8 @@ pub mod FaultLemmas
 pub mod LinkLemmas
 pub mod ListLemmas
 pub mod MeetingLemmas
+pub mod ObjectiveLemmas
 pub mod RowLemmas
 pub mod StateLemmas
+pub mod TypingLemmas
 pub mod ValuationLemmas

@@ -1,10 +1,10 @@
 -- Truth in the state of all rows is truth in the state of one.
-use Rattle.std.proofs.Common.{◌≡◌, ℕ, zero, suc, ◌<◌, ◌≤◌, Bool, true, false, ◌&&◌, ◌==◌, Result, Ok, Err, IfOk, List, [], ◌∷◌, ◌++◌, length, map, get_or, refl, ap, sym, ◌∙◌, subst, arith, IsTrue}
+use Rattle.std.proofs.Common.{◌≡◌, ℕ, ◌<◌, Bool, true, false, ◌&&◌, ◌==◌, Result, Ok, Err, IfOk, List, [], ◌∷◌, length, map, get_or, refl, ap, sym, ◌∙◌, subst, arith, IsTrue}
 use Rattle.std.specs.List.{AllByRecursion}
-use Rattle.std.proofs.lemmas.List.{length-map, get_or-map, same_lists, get_or_default}
+use Rattle.std.proofs.lemmas.List.{length-map, get_or-map, same_lists}
 use Rattle.ep_logic.specs.declared.formula.Node.{Node}
-use Rattle.ep_theory.specs.Bisimulation.{BisimilarWorlds, IsBisimulation}
-use Rattle.ep_theory.specs.Kripke.{Kripke, IsState, truth_of, links_of}
+use Rattle.ep_theory.specs.Bisimulation.{IsBisimulation}
+use Rattle.ep_theory.specs.Kripke.{Kripke, truth_of}
 use Rattle.ep_theory.specs.Numbers.{numbers_where, pairs_where, table}
 use Rattle.ep_theory.specs.Rising.{IsIn}
 use Rattle.ep_theory.specs.Tested.{is_true}

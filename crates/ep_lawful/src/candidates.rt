@@ -38,12 +38,7 @@ fn rows(alloc: Global, varied: &[u32], facts: &Bits) -> Result<List<Bits>, OutOf
 }
 
 /// The truth of each atom under a valuation.
-fn row(
-    alloc: Global,
-    varied: &[u32],
-    facts: &Bits,
-    valuation: &[bool],
-) -> Result<Bits, OutOfMemory>
+fn row(alloc: Global, varied: &[u32], facts: &Bits, valuation: &[bool]) -> Result<Bits, OutOfMemory>
     requires { length valuation.now ≡ length varied.now }
     ensures { IfOk result (λ row. row ≡ filled varied.now facts.now valuation.now) }
 {

@@ -51,7 +51,14 @@ pub fn lawful_state(
     ensures refused { IfErr result (Tells (lawful_fault universe.now vary.now facts.now law.now designated.now)) }
 {
     let worlds = lawful_worlds(alloc, universe, agents, atoms, vary, facts, law)?;
-    let points = designated_worlds(alloc, universe, agents, atoms, worlds.as_slice(), designated)?;
+    let points = designated_worlds(
+        alloc,
+        universe,
+        agents,
+        atoms,
+        worlds.as_slice(),
+        designated,
+    )?;
     let relations = relations(alloc, universe, agents, sees, worlds.as_slice())?;
     Ok(State::from_rows(agents, atoms, worlds, relations, points))
 }
@@ -112,10 +119,10 @@ fn few_worlds(worlds: List<Bits>) -> Result<List<Bits>, LawfulError>
     ensures refused { IfErr result (λ e. (varied designated : ℕ) → varied ≤ 12 →
         Tells (fault_by varied (length worlds) designated) e) }
 {
-    let count = worlds.as_slice().len();
-    if count > MOST_WORLDS {
+    let found = worlds.as_slice().len();
+    if found > MOST_WORLDS {
         return Err(LawfulError::TooManyWorlds {
-            count: count as u64,
+            count: found as u64,
         });
     }
     Ok(worlds)

@@ -4,6 +4,7 @@
 mod candidates;
 mod fault;
 mod lawful;
+pub mod laws;
 mod links;
 mod meeting;
 mod numbers;

@@ -59,12 +59,7 @@ fn agree(atoms: &[u32], v: &Bits, w: &Bits) -> bool
 }
 
 /// The places of the rows that agree with a row.
-fn alike(
-    alloc: Global,
-    rows: &[Bits],
-    atoms: &[u32],
-    row: &Bits,
-) -> Result<Vec<u32>, OutOfMemory>
+fn alike(alloc: Global, rows: &[Bits], atoms: &[u32], row: &Bits) -> Result<Vec<u32>, OutOfMemory>
     requires { length rows.now ≤ 256 }
     ensures { IfOk result (λ places. places.items ≡ numbers_where (λ w. agree atoms.now row.now (slice_index_or rows.now w [])) (length rows.now)) }
 {

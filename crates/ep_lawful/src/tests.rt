@@ -60,7 +60,10 @@ fn initial(
     let law = groundable(rt, alloc, &universe, law)?;
     let designated = groundable(rt, alloc, &universe, designated)?;
     let InitTree::Lawful {
-        vary, facts, sees, ..
+        vary,
+        facts,
+        sees,
+        ..
     } = &typed.tree().init
     else {
         return Err("no lawful form".into());
@@ -95,7 +98,10 @@ fn has_row(rt: &impl Abort, state: &State, world: u32, row: &str) {
 
 fn has_targets(rt: &impl Abort, state: &State, agent: u32, world: u32, targets: &[u32]) {
     assert!(rt; agent < state.agents() && world < state.worlds());
-    assert_eq!(rt; state.targets(AgentId { n: agent }, WorldId { n: world }), targets);
+    assert_eq!(rt;
+        state.targets(AgentId { n: agent }, WorldId { n: world }),
+        targets
+    );
 }
 
 const LETTER: &str = "task letter; objects { ann, bob, cat : agent; } fluents { pass; } init { \
@@ -142,7 +148,8 @@ fn choice(rt: HostRuntime) -> Result<(), Fail> {
     Ok(())
 }
 
-const MANY: &str = "task many; objects { ann : agent; a, b, c, d, e, f, g, h, i, j, k, l : object; } \
+const MANY: &str =
+    "task many; objects { ann : agent; a, b, c, d, e, f, g, h, i, j, k, l : object; } \
     fluents { on(object); } init { vary { on(a), on(b), on(c), on(d), on(e), on(f), on(g), on(h), on(i), \
     on(j), on(k), on(l), on(ann) } law true; designated true; } goal true;";
 
@@ -155,8 +162,18 @@ fn refusals(rt: HostRuntime) -> Result<(), Fail> {
     let rows = [
         (LETTER, "false", "true", LawfulError::NoDesignated),
         (LETTER, "pass", "not pass", LawfulError::NoDesignated),
-        (MANY, "false", "true", LawfulError::TooManyVaried { count: 13 }),
-        (MOST, "true", "false", LawfulError::TooManyWorlds { count: 4_096 }),
+        (
+            MANY,
+            "false",
+            "true",
+            LawfulError::TooManyVaried { count: 13 },
+        ),
+        (
+            MOST,
+            "true",
+            "false",
+            LawfulError::TooManyWorlds { count: 4_096 },
+        ),
     ];
     for (text, law, designated, wanted) in rows {
         let fault = initial(&rt, rt.alloc(), text, law, designated)?.err();

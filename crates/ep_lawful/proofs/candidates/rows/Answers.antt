@@ -1,4 +1,4 @@
-use Rattle.std.proofs.Common.{length, subst, sym, ap, ◌∙◌}
+use Rattle.std.proofs.Common.{length, ap, ◌∙◌}
 use Rattle.ep_lawful.proofs.ValuationLemmas.{long_at}
 use Rattle.ep_lawful.proofs.candidates.rows.Goals as goal
 

@@ -1,9 +1,7 @@
-use Rattle.std.proofs.Common.{◌≡◌, ℕ, ◌<◌, ◌≤◌, length, ap, sym, subst, ◌∙◌, arith, get_or, []}
+use Rattle.std.proofs.Common.{◌≡◌, ◌<◌, ◌≤◌, length, ap, sym, subst, ◌∙◌, arith, get_or, []}
 use Rattle.ep_theory.specs.Kripke.{IsState}
 use Rattle.ep_theory.specs.Numbers.{table}
 use Rattle.ep_kripke.specs.States.{IsBounded, state_of}
-use Rattle.ep_universe.specs.Objects.{agents_of}
-use Rattle.ep_universe.specs.Atoms.{atoms_of}
 use Rattle.ep_lawful.specs.Faults.{Tells, lawful_fault}
 use Rattle.ep_lawful.specs.Lawful.{designated_of, lawful_from, lawful_worlds}
 use Rattle.ep_lawful.specs.Links.{alike, alike_rows, seen}

@@ -1,4 +1,4 @@
-use Rattle.std.proofs.Common.{[], ◌∷◌, ◌++◌, ap, sym, ◌∙◌}
+use Rattle.std.proofs.Common.{[], ◌∷◌, ◌++◌, sym, ◌∙◌}
 use Rattle.ep_universe.specs.Atoms.{atom_at}
 use Rattle.ep_lawful.proofs.ListLemmas.{map_more}
 use Rattle.ep_lawful.proofs.numbers.numbers_of.Goals as goal

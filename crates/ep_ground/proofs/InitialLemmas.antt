@@ -1,15 +1,14 @@
--- The initial state of either form.
-use Rattle.std.proofs.Common.{◌≡◌, ℕ, ◌≤◌, Bool, true, false, cond, nat_lt, ◌∷◌, [], List, Option, Some, None, length, option_map, All, refl, ap, sym, subst, arith}
-use Rattle.std.proofs.lemmas.Bool.Decides.{nat_tests}
+-- The law and the formula of the designated worlds have ground forms in the task.
+use Rattle.std.proofs.Common.{◌≡◌, ◌∷◌, [], List, Option, None, sym, subst}
 use Rattle.std.proofs.lemmas.List.Elements.{All-head, All-tail}
 use Rattle.ep_syntax.specs.declared.tree.AtomTree.{AtomTree}
 use Rattle.ep_syntax.specs.declared.tree.FormulaTree.{FormulaTree}
 use Rattle.ep_syntax.specs.declared.tree.InitTree.{InitTree}
-use Rattle.ep_syntax.specs.declared.tree.InitTree.TheVariants.{Explicit, Lawful}
+use Rattle.ep_syntax.specs.declared.tree.InitTree.TheVariants.{Lawful}
 use Rattle.ep_syntax.specs.declared.tree.SeesTree.{SeesTree}
 use Rattle.ep_syntax.specs.declared.tree.TaskTree.{TaskTree}
 use Rattle.ep_types.specs.Faults.{first_fault}
-use Rattle.ep_types.specs.Places.{Scope, closed, objective, both}
+use Rattle.ep_types.specs.Places.{closed, objective, both}
 use Rattle.ep_types.specs.Tasks.{HasNoFault, declarations, start, declaration_uses, rest_uses, given_uses, init_uses, law_uses, schema_uses, sees_uses}
 use Rattle.ep_types.specs.Uses.{formula_uses}
 use Rattle.ep_types.specs.declared.scope.Declared.{Declared}
@@ -17,36 +16,8 @@ use Rattle.ep_universe.specs.Sizes.{IsBuildable, AreBuildable}
 use Rattle.ep_universe.specs.Typing.{Suits}
 use Rattle.ep_universe.proofs.LawLemmas.{formulas_fit, nothing_bound}
 use Rattle.ep_universe.proofs.TypedLemmas.{both-none}
-use Rattle.ep_lawful.specs.Faults as lawful
 use Rattle.ep_lawful.specs.Meeting.{IsGroundable}
-use Rattle.ep_lawful.specs.declared.fault.LawfulError.{LawfulError}
-use Rattle.ep_lawful.specs.declared.fault.LawfulError.TheVariants.{TooManyVaried, TooManyWorlds, NoDesignated, OutOfMemory}
-use Rattle.ep_parts.specs.Faults.{Reports, above}
 use Rattle.ep_parts.specs.Written.{init_formulas}
-use Rattle.ep_parts.specs.declared.fault.GroundError.{GroundError}
-use Rattle.ep_parts.specs.declared.fault.GroundError.TheVariants as fault
-use Rattle.ep_ground.specs.Grounding.{task_error}
-
--- ---- the explicit form
-
-not_above : (limit n : ℕ) (f : ℕ → GroundError) (b : Bool) → nat_lt limit n ≡ b → cond b (Some (f n)) None ≡ None → n ≤ limit
-not_above limit n f true e h = cc
-not_above limit n f false e h = grind (arith, nat_tests)
-
-pub few_worlds : (n : ℕ) → above 256 fault.TooManyWorlds n ≡ None → n ≤ 256
-few_worlds n h = not_above 256 n fault.TooManyWorlds (nat_lt 256 n) refl h
-
--- ---- the lawful form
-
--- what its error tells, it tells of the task
-pub reported : (row : Option LawfulError) (e : LawfulError) → lawful.Tells row e → Reports (option_map task_error row) (task_error e)
-reported row (TooManyVaried n) h = ap (option_map task_error) h
-reported row (TooManyWorlds n) h = ap (option_map task_error) h
-reported row NoDesignated h = ap (option_map task_error) h
-reported row OutOfMemory h = tt
-
-pub none_reported : (row : Option LawfulError) → row ≡ None → option_map task_error row ≡ None
-none_reported row h = ap (option_map task_error) h
 
 nothing_named : (d : Declared) → Suits (objective d) []
 nothing_named d = record { params = (nothing_bound d).params; others = (nothing_bound d).others }

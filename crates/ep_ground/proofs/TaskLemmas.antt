@@ -1,6 +1,5 @@
 -- What joins the parts of a ground task.
-use Rattle.std.proofs.Common.{IfErr, OnOk, IsErrAnd, ◌≡◌, ℕ, ◌≤◌, Bool, true, false, cond, nat_lt, ◌⊎◌, inl, inr, List, [], ◌∷◌, Option, Some, None, Result, Ok, Err, length, get_or, All, refl, ap, sym, ◌∙◌, subst, arith}
-use Rattle.std.proofs.lemmas.Bool.Decides.{nat_tests}
+use Rattle.std.proofs.Common.{IfErr, OnOk, IsErrAnd, ◌≡◌, ℕ, ◌≤◌, ◌⊎◌, inl, inr, List, [], ◌∷◌, Option, Some, None, Result, Ok, Err, length, get_or, All, refl, ap, sym, ◌∙◌, subst, arith}
 use Rattle.std.proofs.lemmas.List.{length-append, length-map}
 use Rattle.std.proofs.lemmas.List.Elements.{All-weaker}
 use Rattle.ep_lex.specs.Tokens.{spelling, spellings}
@@ -22,7 +21,7 @@ use Rattle.ep_parts.specs.Actions.{schema_bindings, action_at, schema_actions, a
 use Rattle.ep_parts.specs.Bodies.{IsBuildableSchema}
 use Rattle.ep_parts.specs.Faults.{Reports, atom_twice, first_of, limit_fault}
 use Rattle.ep_ground.specs.Grounding.{IsNamed, fault_of, init_fault, initial_of, later_fault, problem_from, task_of}
-use Rattle.ep_parts.specs.Judged.{IsJudged, told, Tells}
+use Rattle.ep_parts.specs.Judged.{IsJudged, Tells}
 use Rattle.ep_parts.specs.Links.{agent_count}
 use Rattle.ep_parts.specs.PrintedNames.{object_name, atom_name, action_name, schema_names, action_names, agent_names, atom_names}
 use Rattle.ep_parts.specs.Task.{GroundTask, IsRead}

@@ -1,6 +1,5 @@
 -- The ground task of a typed task, and the first fault of one that has none.
 use Rattle.std.specs.Prelude.{◌≡◌, [], ◌∷◌, Option, option_map, unwrap_or, length}
-use Rattle.ep_logic.specs.declared.formula.Node.{Node}
 use Rattle.ep_theory.specs.Kripke.{Kripke}
 use Rattle.ep_problem.specs.PlanningTask.{PlanningTask}
 use Rattle.ep_syntax.specs.declared.tree.InitTree.{InitTree}

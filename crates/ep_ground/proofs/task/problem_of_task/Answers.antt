@@ -46,7 +46,7 @@ returns-in_err-initial-clause-err c =
     let d = c.args.universe.now in
     let twice = atom_twice (action_names d t.schemas) (actions_of d t.schemas) in
     let e = c.in_err-initial.field-0.0 in
-    handed_on c.from_residual.result e (init_fault d t.init) (later_fault d t) c.from_residual.ensures.1 c.in_err-initial.ensures.err (later_second twice (init_fault d t.init) e c.in_ok-actions.ensures.once)
+    handed_on c.from_residual-in_err-initial.result e (init_fault d t.init) (later_fault d t) c.from_residual-in_err-initial.ensures.1 c.in_err-initial.ensures.err (later_second twice (init_fault d t.init) e c.in_ok-actions.ensures.once)
 
 pub returns-clause-sound : goal.returns-clause-sound
 returns-clause-sound c =

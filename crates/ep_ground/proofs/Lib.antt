@@ -1,3 +1,4 @@
 pub mod FitLemmas
+pub mod InitialLemmas
 pub mod TaskLemmas
 pub mod TextLemmas

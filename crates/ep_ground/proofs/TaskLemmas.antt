@@ -1,6 +1,5 @@
 -- What joins the parts of a ground task.
-use Rattle.std.proofs.Common.{IfErr, OnOk, IsErrAnd, ◌≡◌, ℕ, ◌≤◌, Bool, true, false, cond, nat_lt, ◌⊎◌, inl, inr, List, [], ◌∷◌, Option, Some, None, Result, Ok, Err, length, get_or, All, refl, ap, sym, ◌∙◌, subst, arith}
-use Rattle.std.proofs.lemmas.Bool.Decides.{nat_tests}
+use Rattle.std.proofs.Common.{IfErr, OnOk, IsErrAnd, ◌≡◌, ℕ, ◌≤◌, ◌⊎◌, inl, inr, List, [], ◌∷◌, Option, Some, None, Result, Ok, Err, length, get_or, All, refl, ap, sym, ◌∙◌, subst, arith}
 use Rattle.std.proofs.lemmas.List.{length-append, length-map}
 use Rattle.std.proofs.lemmas.List.Elements.{All-weaker}
 use Rattle.ep_lex.specs.Tokens.{spelling, spellings}
@@ -20,12 +19,12 @@ use Rattle.ep_universe.specs.Objects.{agents_of}
 use Rattle.ep_universe.specs.Sizes.{IsBuildable}
 use Rattle.ep_parts.specs.Actions.{schema_bindings, action_at, schema_actions, actions_of}
 use Rattle.ep_parts.specs.Bodies.{IsBuildableSchema}
-use Rattle.ep_parts.specs.Faults.{Reports, above, atom_twice, first_of, limit_fault, init_fault, fault_of}
-use Rattle.ep_ground.specs.Grounding.{IsNamed, later_fault}
-use Rattle.ep_parts.specs.Judged.{IsJudged, told, Tells}
+use Rattle.ep_parts.specs.Faults.{Reports, atom_twice, first_of, limit_fault}
+use Rattle.ep_ground.specs.Grounding.{IsNamed, fault_of, init_fault, initial_of, later_fault, problem_from, task_of}
+use Rattle.ep_parts.specs.Judged.{IsJudged, Tells}
 use Rattle.ep_parts.specs.Links.{agent_count}
 use Rattle.ep_parts.specs.PrintedNames.{object_name, atom_name, action_name, schema_names, action_names, agent_names, atom_names}
-use Rattle.ep_parts.specs.Task.{GroundTask, IsExplicit, IsRead, initial_of, problem_from, task_of}
+use Rattle.ep_parts.specs.Task.{GroundTask, IsRead}
 use Rattle.ep_parts.specs.Within.{IsWithinLimits}
 use Rattle.ep_parts.specs.Written.{body_formulas}
 use Rattle.ep_parts.specs.declared.fault.GroundError.{GroundError}
@@ -46,24 +45,13 @@ as_many_agents d = length-map (agents_of d) (object_name d)
 pub as_many_atoms : (d : Declared) → length (atom_names d) ≡ length (atoms_of d)
 as_many_atoms d = length-map (atoms_of d) (atom_name d)
 
-pub initial_agents : (d : Declared) (i : InitTree) → IsExplicit i → (initial_of d i).agents ≡ agent_count d
-initial_agents d (Explicit worlds designated links) h = refl
-initial_agents d (Lawful vary facts law sees designated) h = absurd h
+pub initial_agents : (d : Declared) (i : InitTree) → (initial_of d i).agents ≡ agent_count d
+initial_agents d (Explicit worlds designated links) = refl
+initial_agents d (Lawful vary facts law sees designated) = refl
 
-pub initial_atoms : (d : Declared) (i : InitTree) → IsExplicit i → (initial_of d i).atoms ≡ length (atoms_of d)
-initial_atoms d (Explicit worlds designated links) h = refl
-initial_atoms d (Lawful vary facts law sees designated) h = absurd h
-
-not_above : (limit n : ℕ) (f : ℕ → GroundError) (b : Bool) → nat_lt limit n ≡ b → cond b (Some (f n)) None ≡ None → n ≤ limit
-not_above limit n f true e h = cc
-not_above limit n f false e h = grind (arith, nat_tests)
-
-pub few_worlds : (n : ℕ) → above 256 fault.TooManyWorlds n ≡ None → n ≤ 256
-few_worlds n h = not_above 256 n fault.TooManyWorlds (nat_lt 256 n) refl h
-
-pub initial_worlds : (d : Declared) (i : InitTree) → IsExplicit i → init_fault i ≡ None → (initial_of d i).worlds ≤ 256
-initial_worlds d (Explicit worlds designated links) h k = few_worlds (length worlds) k
-initial_worlds d (Lawful vary facts law sees designated) h k = absurd h
+pub initial_atoms : (d : Declared) (i : InitTree) → (initial_of d i).atoms ≡ length (atoms_of d)
+initial_atoms d (Explicit worlds designated links) = refl
+initial_atoms d (Lawful vary facts law sees designated) = refl
 
 -- ---- schemas that can be built
 
@@ -85,14 +73,6 @@ later_first a i x e = ap (λ r. first_of (r ∷ i ∷ [])) e
 
 pub later_second : (a i : Option GroundError) (x : GroundError) → a ≡ None → i ≡ Some x → first_of (a ∷ i ∷ []) ≡ Some x
 later_second a i x e f = λ j. first_of (e j ∷ f j ∷ [])
-
-pub told_none : (row : Option GroundError) (x : Unit {0}) → told row ≡ Ok x → row ≡ None
-told_none None x h = refl
-told_none (Some f) x h = cc
-
-pub told_some : (row : Option GroundError) (e : GroundError) → told row ≡ Err e → row ≡ Some e
-told_some None e h = cc
-told_some (Some f) e h = cc
 
 pub reports_some : (o : Option GroundError) (e : GroundError) → o ≡ Some e → Reports o e
 reports_some o fault.OutOfMemory h = tt
@@ -163,10 +143,10 @@ reported_err row whole (Err x) e h = elim (found_or row x h) [ inl none ↦ inl 
 
 -- where the limits are kept, the first row is a later one
 pub whole_fault : (d : Declared) (t : TaskTree) → limit_fault d t ≡ None → fault_of d t ≡ later_fault d t
-whole_fault d t h = ap (λ r. first_of (r ∷ atom_twice (action_names d t.schemas) (actions_of d t.schemas) ∷ init_fault t.init ∷ [])) h
+whole_fault d t h = ap (λ r. first_of (r ∷ atom_twice (action_names d t.schemas) (actions_of d t.schemas) ∷ init_fault d t.init ∷ [])) h
 
 pub limits_first : (d : Declared) (t : TaskTree) (e : GroundError) → limit_fault d t ≡ Some e → fault_of d t ≡ Some e
-limits_first d t e h = ap (λ r. first_of (r ∷ atom_twice (action_names d t.schemas) (actions_of d t.schemas) ∷ init_fault t.init ∷ [])) h
+limits_first d t e h = ap (λ r. first_of (r ∷ atom_twice (action_names d t.schemas) (actions_of d t.schemas) ∷ init_fault d t.init ∷ [])) h
 
 -- ---- trees
 
@@ -180,12 +160,12 @@ is_read bytes tokens t few reads = record {
 
 -- ---- names
 
-pub named : (t : TaskTree) → IsExplicit t.init → IsWithin (declarations t) → IsNamed (task_of t)
-named t h within =
+pub named : (t : TaskTree) → IsWithin (declarations t) → IsNamed (task_of t)
+named t within =
     let d = declarations t in
     record {
-      agents = as_many_agents d ∙ sym (initial_agents d t.init h);
-      atoms = as_many_atoms d ∙ sym (initial_atoms d t.init h);
+      agents = as_many_agents d ∙ sym (initial_agents d t.init);
+      atoms = as_many_atoms d ∙ sym (initial_atoms d t.init);
       actions = as_many_actions d t.schemas;
       declared_agents = as_many_agents d;
       declared_atoms = as_many_atoms d;
@@ -197,7 +177,7 @@ pub same_task : (t : TaskTree) (agents atoms actions : List Text) (problem : Pla
     problem ≡ problem_from (declarations t) t → ◌≡◌ {A = GroundTask} (record { tree = t; agents = agents; atoms = atoms; actions = actions; problem = problem }) (task_of t)
 same_task t agents atoms actions problem e f g h = λ j. record { tree = t; agents = e j; atoms = f j; actions = g j; problem = h j }
 
--- an error that is found is reported
-pub err_reports : {A : Type 0} (r : Result A GroundError) (e : GroundError) (o : Option GroundError) → IsErrAnd r (λ x. x ≡ e) → o ≡ Some e → IfErr r (Reports o)
-err_reports (Ok a) e o h k = tt
-err_reports (Err x) e o h k = subst (Reports o) (sym h) (reports_some o e k)
+-- an error that is handed on, where another row tells it too
+pub handed_on : {A : Type 0} (r : Result A GroundError) (e : GroundError) (row whole : Option GroundError) → IsErrAnd r (λ x. x ≡ e) → Reports row e → (row ≡ Some e → whole ≡ Some e) → IfErr r (Reports whole)
+handed_on (Ok a) e row whole h k f = tt
+handed_on (Err x) e row whole h k f = subst (Reports whole) (sym h) (elim (found_or row e k) [ inl none ↦ subst (Reports whole) (sym none) tt | inr some ↦ reports_some whole e (f some) ])

@@ -8,14 +8,15 @@ ghost use Rattle.ep_syntax.specs.Grammar.{tasks, Reads};
 ghost use Rattle.ep_syntax.specs.declared.tree.TaskTree.{TaskTree};
 ghost use Rattle.ep_theory.specs.Fits.{ActionFits, Fits};
 ghost use Rattle.ep_types.specs.Tasks.{HasNoFault, declarations};
+ghost use Rattle.ep_ground.specs.Grounding.{initial_of, problem_from};
 ghost use Rattle.ep_parts.specs.Actions.{actions_of};
-ghost use Rattle.ep_parts.specs.Task.{IsExplicit, IsRead, initial_of, problem_from};
+ghost use Rattle.ep_parts.specs.Task.{IsRead};
 
 /// In a task without a fault all ground actions and the goal are among the agents and atoms of the initial state.
 pub fn ground_actions_fit()
-    ensures actions { (t : TaskTree) → HasNoFault t → IsExplicit t.init →
+    ensures actions { (t : TaskTree) → HasNoFault t →
         AllByRecursion (ActionFits (initial_of (declarations t) t.init)) (actions_of (declarations t) t.schemas) }
-    ensures goal { (t : TaskTree) → HasNoFault t → IsExplicit t.init →
+    ensures goal { (t : TaskTree) → HasNoFault t →
         Fits (initial_of (declarations t) t.init) (problem_from (declarations t) t).goal }
 {}
 

@@ -3,6 +3,7 @@
 
 mod formula;
 mod grounding;
+mod initial;
 pub mod laws;
 mod state_text;
 mod task;

@@ -5,27 +5,24 @@ ghost use Rattle.ep_problem.specs.PlanningTask.{IsPlanningTask, IsSmall};
 ghost use Rattle.ep_types.specs.Names.{names_of};
 ghost use Rattle.ep_types.specs.Tasks.{HasNoFault, declarations};
 ghost use Rattle.ep_parts.specs.Actions.{actions_of};
-ghost use Rattle.ep_parts.specs.Faults.{Reports, init_fault};
-ghost use Rattle.ep_ground.specs.Grounding.{IsNamed, later_fault};
-ghost use Rattle.ep_parts.specs.Initial.{explicit_state};
+ghost use Rattle.ep_parts.specs.Faults.{Reports, atom_twice};
+ghost use Rattle.ep_ground.specs.Grounding.{IsNamed, later_fault, problem_from, task_of};
 ghost use Rattle.ep_parts.specs.Links.{agent_count};
 ghost use Rattle.ep_parts.specs.PrintedNames as printed;
-ghost use Rattle.ep_parts.specs.Task.{IsExplicit, IsRead, initial_of, problem_from, task_of};
+ghost use Rattle.ep_parts.specs.Task.{IsRead};
 ghost use Rattle.ep_parts.specs.Within.{IsWithinLimits};
-ghost use Rattle.ep_universe.specs.Atoms.{atoms_of};
 ghost use Rattle.ep_universe.specs.Limits.{IsWithin};
 
+use crate::initial::initial_state;
 use ep_event::Action;
 use ep_kripke::State;
 use ep_logic::{ActionId, AgentId, AtomId, Formula, List, OutOfMemory, Text};
 use ep_name::NameTable;
-use ep_parts::initial::explicit_state;
+use ep_parts::GroundError;
 use ep_parts::names::{agent_names, atom_names, object_names};
 use ep_parts::schemas::ground_actions;
 use ep_parts::tables::action_table;
-use ep_parts::{GroundError, check_worlds};
 use ep_problem::Problem;
-use ep_syntax::InitTree;
 use ep_types::Typed;
 use ep_universe::formula::ground_form;
 use ep_universe::universe::Universe;
@@ -63,7 +60,6 @@ impl Model for Task {
 impl Task {
     /// The ground task of a tree, from its parts.
     pub(crate) fn from_parts(typed: Typed, parts: Parts) -> Task
-        requires explicit { IsExplicit typed.init }
         requires within { IsWithin (declarations typed) }
         requires agents { parts.agents ≡ printed.agent_names (declarations typed) }
         requires atoms { parts.atoms ≡ printed.atom_names (declarations typed) }
@@ -242,8 +238,8 @@ fn names_of_task(alloc: Global, typed: &Typed) -> Result<Names, OutOfMemory>
     })
 }
 
-/// The ground actions, where none assigns to one atom twice and there are not too many worlds.
-fn sound_actions(
+/// The ground actions, where none assigns to one atom twice.
+fn actions_of_task(
     alloc: Global,
     universe: &Universe,
     typed: &Typed,
@@ -256,49 +252,11 @@ fn sound_actions(
     requires agents { agents ≡ agent_count universe.now }
     requires names { names.now ≡ names_of universe.now.objects }
     ensures value { IfOk result (λ actions. actions ≡ actions_of universe.now typed.now.schemas) }
-    ensures sound { OnOk result (later_fault universe.now typed.now ≡ None) }
-    ensures worlds { OnOk result (init_fault typed.now.init ≡ None) }
-    ensures err { IfErr result (Reports (later_fault universe.now typed.now)) }
+    ensures once { OnOk result (atom_twice (printed.action_names universe.now typed.now.schemas) (actions_of universe.now typed.now.schemas) ≡ None) }
+    ensures err { IfErr result (Reports (atom_twice (printed.action_names universe.now typed.now.schemas) (actions_of universe.now typed.now.schemas))) }
 {
     let tree = typed.tree();
-    let actions = ground_actions(alloc, universe, agents, names, tree.schemas.as_slice())?;
-    check_worlds(&tree.init)?;
-    Ok(actions)
-}
-
-fn initial_state(
-    alloc: Global,
-    universe: &Universe,
-    typed: &Typed,
-    agents: u32,
-    atoms: u32,
-) -> Result<State, OutOfMemory>
-    requires same { universe.now ≡ declarations typed.now }
-    requires read { IsRead typed.now }
-    requires within { IsWithinLimits universe.now typed.now }
-    requires explicit { IsExplicit typed.now.init }
-    requires worlds { init_fault typed.now.init ≡ None }
-    requires agents { agents ≡ agent_count universe.now }
-    requires atoms { atoms ≡ length (atoms_of universe.now) }
-    ensures { IfOk result (λ state. state ≡ initial_of universe.now typed.now.init) }
-{
-    let InitTree::Explicit {
-        worlds,
-        designated,
-        links,
-    } = &typed.tree().init
-    else {
-        unreachable!()
-    };
-    explicit_state(
-        alloc,
-        universe,
-        agents,
-        atoms,
-        worlds.as_slice(),
-        designated.as_slice(),
-        links.as_slice(),
-    )
+    ground_actions(alloc, universe, agents, names, tree.schemas.as_slice())
 }
 
 fn problem_of_task(
@@ -310,7 +268,6 @@ fn problem_of_task(
     requires same { universe.now ≡ declarations typed.now }
     requires read { IsRead typed.now }
     requires within { IsWithinLimits universe.now typed.now }
-    requires explicit { IsExplicit typed.now.init }
     requires objects { names.now.objects ≡ names_of universe.now.objects }
     requires agents { names.now.agents ≡ printed.agent_names universe.now }
     requires atoms { names.now.atoms ≡ printed.atom_names universe.now }
@@ -320,17 +277,16 @@ fn problem_of_task(
 {
     let agents = names.agents.as_slice().len() as u32;
     let atoms = names.atoms.as_slice().len() as u32;
-    let actions = sound_actions(alloc, universe, typed, agents, names.objects.as_slice())?;
+    let actions = actions_of_task(alloc, universe, typed, agents, names.objects.as_slice())?;
     let initial = initial_state(alloc, universe, typed, agents, atoms)?;
     let goal = ground_form(alloc, universe, &typed.tree().goal, &[])?;
     Ok(Problem::new(initial, actions, goal))
 }
 
 /// The parts of the ground task of a typed task that is within the limits. An error tells the first action that assigns
-/// to one atom twice, or too many worlds, or that there is no memory.
+/// to one atom twice, or else the fault of the initial state, or that there is no memory.
 pub fn parts_of_task(alloc: Global, typed: &Typed) -> Result<Parts, GroundError>
     requires read { IsRead typed.now }
-    requires explicit { IsExplicit typed.now.init }
     requires within { IsWithinLimits (declarations typed.now) typed.now }
     ensures agents { IfOk result (λ parts. parts.agents ≡ printed.agent_names (declarations typed.now)) }
     ensures atoms { IfOk result (λ parts. parts.atoms ≡ printed.atom_names (declarations typed.now)) }

@@ -1,7 +1,7 @@
 use crate::{GroundError, Task, ground, ground_formula, print_state};
 use ep_lex::tokens;
 use ep_logic::{ActionId, AgentId, AtomId, Formula, Node};
-use ep_syntax::{InitTree, read_formula, read_task};
+use ep_syntax::{read_formula, read_task};
 use ep_types::{TypeFault, check};
 use ep_universe::FormulaFault;
 use std::alloc::Global;
@@ -26,6 +26,22 @@ const PAIR: &str = "task pair; objects { ann, bob : agent; } fluents { has(agent
 const NINE: &str = "task nine; objects { a, b, c, d, e, f, g, h, i : agent; } fluents { } \
     init { world o { } designated { o } } goal true;";
 
+const LETTER: &str = "task letter; objects { ann, bob, cat : agent; } fluents { pass; } init { \
+    vary { pass } law true; sees { ann } { pass } designated pass; } \
+    action whisper(a : agent, b : agent) distinct { private knows a pass to { a, b }; } \
+    goal (knows bob pass and not knows cat pass and knows ann knows bob pass);";
+
+const RAIN: &str = "task rain; objects { ann : agent; } fluents { wet; cold; } init { \
+    vary { wet } facts { cold } law true; designated true; } goal true;";
+
+const MANY: &str =
+    "task many; objects { ann : agent; a, b, c, d, e, f, g, h, i, j, k, l : object; } \
+    fluents { on(object); } init { vary { on(a), on(b), on(c), on(d), on(e), on(f), on(g), on(h), on(i), \
+    on(j), on(k), on(l), on(ann) } law true; designated true; } goal true;";
+
+const NOWHERE: &str = "task nowhere; objects { ann : agent; } fluents { p; } init { \
+    vary { p } law p; designated not p; } goal true;";
+
 fn task(rt: &impl Abort, alloc: Global, text: &str) -> Result<Result<Task, GroundError>, Fail> {
     let bytes = text.as_bytes();
     assert!(rt; bytes.len() <= 1_048_576);
@@ -33,9 +49,6 @@ fn task(rt: &impl Abort, alloc: Global, text: &str) -> Result<Result<Task, Groun
     let _count = found.count();
     let tree = read_task(alloc, bytes, &found)?;
     let typed = check(alloc, tree)?;
-    let InitTree::Explicit { .. } = &typed.tree().init else {
-        return Err("not explicit".into());
-    };
     Ok(ground(alloc, typed))
 }
 
@@ -83,18 +96,45 @@ fn refusals(rt: HostRuntime) -> Result<(), Fail> {
     assert_eq!(rt; name.as_slice(), "swap(ann,ann)".as_bytes());
     let nine = task(&rt, rt.alloc(), NINE)?;
     assert!(rt; matches!(nine, Err(GroundError::TooManyAgents { count: 9 })));
+    let many = task(&rt, rt.alloc(), MANY)?;
+    assert!(rt; matches!(many, Err(GroundError::TooManyVaried { count: 13 })));
+    let nowhere = task(&rt, rt.alloc(), NOWHERE)?;
+    assert!(rt; matches!(nowhere, Err(GroundError::NoDesignated)));
+    Ok(())
+}
+
+fn has_text(rt: &impl Abort, alloc: Global, text: &str, want: &str) -> Result<(), Fail> {
+    let task = task(rt, alloc, text)??;
+    let state = task.initial();
+    assert!(rt; state.agents() == task.agents() && state.atoms() == task.atoms());
+    let printed = print_state(alloc, &task, state)?;
+    assert_eq!(rt; printed.as_slice(), want.as_bytes());
     Ok(())
 }
 
 #[test]
-fn text_of_a_state(rt: HostRuntime) -> Result<(), Fail> {
-    let task = task(&rt, rt.alloc(), COIN)??;
-    let state = task.initial();
-    assert!(rt; state.agents() == task.agents() && state.atoms() == task.atoms());
-    let text = print_state(rt.alloc(), &task, state)?;
-    let want = "worlds 2\natom heads\nworld 0 1 designated\nworld 1 0\n\
-        links ann 0: 0 1\nlinks ann 1: 0 1\nlinks bob 0: 0 1\nlinks bob 1: 0 1\n";
-    assert_eq!(rt; text.as_slice(), want.as_bytes());
+fn initial_states(rt: HostRuntime) -> Result<(), Fail> {
+    let rows = [
+        (
+            COIN,
+            "worlds 2\natom heads\nworld 0 1 designated\nworld 1 0\n\
+             links ann 0: 0 1\nlinks ann 1: 0 1\nlinks bob 0: 0 1\nlinks bob 1: 0 1\n",
+        ),
+        (
+            LETTER,
+            "worlds 2\natom pass\nworld 0 0\nworld 1 1 designated\n\
+             links ann 0: 0\nlinks ann 1: 1\nlinks bob 0: 0 1\nlinks bob 1: 0 1\n\
+             links cat 0: 0 1\nlinks cat 1: 0 1\n",
+        ),
+        (
+            RAIN,
+            "worlds 2\natom wet\natom cold\nworld 0 01 designated\nworld 1 11 designated\n\
+             links ann 0: 0 1\nlinks ann 1: 0 1\n",
+        ),
+    ];
+    for (text, want) in rows {
+        has_text(&rt, rt.alloc(), text, want)?;
+    }
     Ok(())
 }
 

@@ -1,5 +1,6 @@
 use Rattle.ep_types.specs.Tasks.{declarations}
-use Rattle.ep_parts.specs.Faults.{fault_of, limit_fault}
+use Rattle.ep_ground.specs.Grounding.{fault_of}
+use Rattle.ep_parts.specs.Faults.{limit_fault}
 use Rattle.ep_ground.proofs.TaskLemmas.{judged_ok, judged_err, limits_first}
 use Rattle.ep_ground.proofs.grounding.limits.Goals as goal
 

@@ -1,6 +1,5 @@
 use Rattle.ep_types.specs.Tasks.{declarations}
-use Rattle.ep_parts.specs.Faults.{fault_of}
-use Rattle.ep_ground.specs.Grounding.{later_fault}
+use Rattle.ep_ground.specs.Grounding.{fault_of, later_fault}
 use Rattle.ep_ground.proofs.TaskLemmas.{reported_ok, reported_err, whole_fault}
 use Rattle.ep_ground.proofs.grounding.parts.Goals as goal
 

@@ -7,7 +7,7 @@ pub invariant_of-result : goal.invariant_of-result
 invariant_of-result c =
     let t = c.args.typed in
     let same = same_task t _ _ _ _ c.requires.agents c.requires.atoms c.requires.actions c.requires.problem in
-    subst IsNamed (sym same) (named t c.requires.explicit c.requires.within)
+    subst IsNamed (sym same) (named t c.requires.within)
 
 pub returns : goal.returns
 returns c = same_task c.args.typed _ _ _ _ c.requires.agents c.requires.atoms c.requires.actions c.requires.problem

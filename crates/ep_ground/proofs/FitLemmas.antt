@@ -1,12 +1,11 @@
 -- All actions and the goal are among the agents and atoms of the initial state.
-use Rattle.std.proofs.Common.{◌≡◌, ℕ, ◌<◌, Bool, true, false, cond, None, List, [], ◌∷◌, ◌++◌, length, map, All, IsTrue, refl, ap, sym, ◌∙◌, subst}
-use Rattle.std.specs.List.{flat_map, AllByRecursion}
+use Rattle.std.proofs.Common.{◌≡◌, ℕ, ◌<◌, Bool, true, false, cond, None, List, [], ◌∷◌, ◌++◌, length, map, All, IsTrue, refl, sym, ◌∙◌, subst}
+use Rattle.std.specs.List.{AllByRecursion}
 use Rattle.std.proofs.lemmas.List.Elements.{All-head, All-tail, All-filter}
 use Rattle.std.proofs.lemmas.Option.{slice_get_within}
 use Rattle.ep_logic.specs.declared.formula.Node.{Node}
 use Rattle.ep_logic.specs.declared.formula.Node.TheVariants as node
 use Rattle.ep_theory.specs.Kripke.{Kripke}
-use Rattle.ep_theory.specs.Events.{Event, EventModel}
 use Rattle.ep_theory.specs.Fits.{fits_in, Fits, SetFits, EventFits, ActionFits}
 use Rattle.ep_theory.specs.FourActions.{plain}
 use Rattle.ep_theory.specs.Numbers.{table}
@@ -16,9 +15,6 @@ use Rattle.ep_binding.proofs.LawsLemmas.{all-bindings}
 use Rattle.ep_syntax.specs.declared.tree.AtomTree.{AtomTree}
 use Rattle.ep_syntax.specs.declared.tree.ParamTree.{ParamTree}
 use Rattle.ep_syntax.specs.declared.tree.FormulaTree.{FormulaTree}
-use Rattle.ep_syntax.specs.declared.tree.GroupTree.{GroupTree}
-use Rattle.ep_syntax.specs.declared.tree.InitTree.{InitTree}
-use Rattle.ep_syntax.specs.declared.tree.InitTree.TheVariants.{Explicit, Lawful}
 use Rattle.ep_syntax.specs.declared.tree.SetTree.{SetTree}
 use Rattle.ep_syntax.specs.declared.tree.EventTree.{EventTree}
 use Rattle.ep_syntax.specs.declared.tree.BodyTree.{BodyTree}
@@ -40,7 +36,6 @@ use Rattle.ep_universe.proofs.LawLemmas.{formulas_fit, atoms_stand, suits, nothi
 use Rattle.ep_universe.proofs.TypedLemmas.{both-none}
 use Rattle.ep_parts.specs.Actions.{schema_bindings, set_of, event_of, action_of, action_at, schema_actions, actions_of}
 use Rattle.ep_parts.specs.Links.{agent_count}
-use Rattle.ep_parts.specs.Task.{IsExplicit, initial_of}
 
 -- ---- lists
 

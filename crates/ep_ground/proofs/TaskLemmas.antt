@@ -1,10 +1,12 @@
 -- What joins the parts of a ground task.
-use Rattle.std.proofs.Common.{IfErr, IsErrAnd, ◌≡◌, ◌≢◌, ℕ, ◌<◌, ◌≤◌, Bool, true, false, cond, nat_lt, ◌⊎◌, inl, inr, List, [], ◌∷◌, ◌++◌, Option, Some, None, Result, Ok, Err, length, map, get_or, All, refl, ap, sym, ◌∙◌, subst, arith}
-use Rattle.std.specs.List.{flat_map}
+use Rattle.std.proofs.Common.{IfErr, OnOk, IsErrAnd, ◌≡◌, ℕ, ◌≤◌, Bool, true, false, cond, nat_lt, ◌⊎◌, inl, inr, List, [], ◌∷◌, Option, Some, None, Result, Ok, Err, length, get_or, All, refl, ap, sym, ◌∙◌, subst, arith}
 use Rattle.std.proofs.lemmas.Bool.Decides.{nat_tests}
 use Rattle.std.proofs.lemmas.List.{length-append, length-map}
 use Rattle.std.proofs.lemmas.List.Elements.{All-weaker}
+use Rattle.ep_lex.specs.Tokens.{spelling, spellings}
+use Rattle.ep_lex.specs.declared.token.Token.{Token}
 use Rattle.ep_problem.specs.PlanningTask.{PlanningTask}
+use Rattle.ep_syntax.specs.Grammar.{tasks, Reads}
 use Rattle.ep_syntax.specs.declared.tree.InitTree.{InitTree}
 use Rattle.ep_syntax.specs.declared.tree.InitTree.TheVariants.{Explicit, Lawful}
 use Rattle.ep_syntax.specs.declared.tree.SchemaTree.{SchemaTree}
@@ -13,13 +15,14 @@ use Rattle.ep_types.specs.Names.{Text}
 use Rattle.ep_types.specs.Tasks.{HasNoFault, declarations}
 use Rattle.ep_types.specs.declared.scope.Declared.{Declared}
 use Rattle.ep_universe.specs.Atoms.{atoms_of}
+use Rattle.ep_universe.specs.Limits.{IsWithin}
 use Rattle.ep_universe.specs.Objects.{agents_of}
 use Rattle.ep_universe.specs.Sizes.{IsBuildable}
 use Rattle.ep_parts.specs.Actions.{schema_bindings, action_at, schema_actions, actions_of}
 use Rattle.ep_parts.specs.Bodies.{IsBuildableSchema}
 use Rattle.ep_parts.specs.Faults.{Reports, above, atom_twice, first_of, limit_fault, init_fault, fault_of}
 use Rattle.ep_ground.specs.Grounding.{IsNamed, later_fault}
-use Rattle.ep_parts.specs.Judged.{told, Tells}
+use Rattle.ep_parts.specs.Judged.{IsJudged, told, Tells}
 use Rattle.ep_parts.specs.Links.{agent_count}
 use Rattle.ep_parts.specs.PrintedNames.{object_name, atom_name, action_name, schema_names, action_names, agent_names, atom_names}
 use Rattle.ep_parts.specs.Task.{GroundTask, IsExplicit, IsRead, initial_of, problem_from, task_of}
@@ -138,6 +141,26 @@ told_or o (fault.TooManyVaried n) h = inr (h (λ e. cc))
 told_or o (fault.TooManyWorlds n) h = inr (h (λ e. cc))
 told_or o fault.NoDesignated h = inr (h (λ e. cc))
 
+-- an answer that is judged by a row, told by a table in which the row comes first
+pub judged_ok : {A : Type 0} (row : Option GroundError) (r : Result A GroundError) → IsJudged row r → OnOk r (row ≡ None)
+judged_ok row (Ok a) h = h
+judged_ok row (Err e) h = tt
+
+pub judged_err : {A : Type 0} (row whole : Option GroundError) (r : Result A GroundError) → ((e : GroundError) → row ≡ Some e → whole ≡ Some e) → IsJudged row r →
+    IfErr r (λ e. (e ≡ fault.OutOfMemory) ⊎ (whole ≡ Some e))
+judged_err row whole (Ok a) f h = tt
+judged_err row whole (Err e) f h = elim (told_or row e h) [ inl none ↦ inl none | inr some ↦ inr (f e some) ]
+
+-- an answer that reports a row, where the whole table has the same
+pub reported_ok : {A : Type 0} (row whole : Option GroundError) (r : Result A GroundError) → whole ≡ row → OnOk r (row ≡ None) → OnOk r (whole ≡ None)
+reported_ok row whole (Ok a) e h = e ∙ h
+reported_ok row whole (Err x) e h = tt
+
+pub reported_err : {A : Type 0} (row whole : Option GroundError) (r : Result A GroundError) → whole ≡ row → IfErr r (Reports row) →
+    IfErr r (λ e. (e ≡ fault.OutOfMemory) ⊎ (whole ≡ Some e))
+reported_err row whole (Ok a) e h = tt
+reported_err row whole (Err x) e h = elim (found_or row x h) [ inl none ↦ inl none | inr some ↦ inr (e ∙ some) ]
+
 -- where the limits are kept, the first row is a later one
 pub whole_fault : (d : Declared) (t : TaskTree) → limit_fault d t ≡ None → fault_of d t ≡ later_fault d t
 whole_fault d t h = ap (λ r. first_of (r ∷ atom_twice (action_names d t.schemas) (actions_of d t.schemas) ∷ init_fault t.init ∷ [])) h
@@ -145,16 +168,28 @@ whole_fault d t h = ap (λ r. first_of (r ∷ atom_twice (action_names d t.schem
 pub limits_first : (d : Declared) (t : TaskTree) (e : GroundError) → limit_fault d t ≡ Some e → fault_of d t ≡ Some e
 limits_first d t e h = ap (λ r. first_of (r ∷ atom_twice (action_names d t.schemas) (actions_of d t.schemas) ∷ init_fault t.init ∷ [])) h
 
+-- ---- trees
+
+-- a tree that reads the tokens of a text
+pub is_read : (bytes : List ℕ) (tokens : List Token) (t : TaskTree) → length tokens ≤ 262144 → Reads tasks (spellings bytes tokens) t → IsRead t
+is_read bytes tokens t few reads = record {
+  formed = reads.formed;
+  shallow = reads.shallow;
+  few = subst (λ (ts : List (List ℕ)). length ts ≤ 262144) (sym reads.spelled) (omega (arith, length-map tokens (spelling bytes)));
+}
+
 -- ---- names
 
-pub named : (t : TaskTree) → IsExplicit t.init → length (declarations t).objects ≤ 64 → IsNamed (task_of t)
-named t h few =
+pub named : (t : TaskTree) → IsExplicit t.init → IsWithin (declarations t) → IsNamed (task_of t)
+named t h within =
     let d = declarations t in
     record {
       agents = as_many_agents d ∙ sym (initial_agents d t.init h);
       atoms = as_many_atoms d ∙ sym (initial_atoms d t.init h);
       actions = as_many_actions d t.schemas;
-      objects = few;
+      declared_agents = as_many_agents d;
+      declared_atoms = as_many_atoms d;
+      within = within;
     }
 
 -- a task with the parts that the tree has is the tree's

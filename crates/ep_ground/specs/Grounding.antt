@@ -1,8 +1,11 @@
 -- What grounding tells once the limits are kept, and what a ground task names.
-use Rattle.std.specs.Prelude.{◌≡◌, ◌≤◌, [], ◌∷◌, Option, length}
+use Rattle.std.specs.Prelude.{◌≡◌, [], ◌∷◌, Option, length}
 use Rattle.ep_syntax.specs.declared.tree.TaskTree.{TaskTree}
 use Rattle.ep_types.specs.Tasks.{declarations}
 use Rattle.ep_types.specs.declared.scope.Declared.{Declared}
+use Rattle.ep_universe.specs.Atoms.{atoms_of}
+use Rattle.ep_universe.specs.Limits.{IsWithin}
+use Rattle.ep_universe.specs.Objects.{agents_of}
 use Rattle.ep_parts.specs.Actions.{actions_of}
 use Rattle.ep_parts.specs.Faults.{atom_twice, first_of, init_fault}
 use Rattle.ep_parts.specs.PrintedNames.{action_names}
@@ -16,9 +19,11 @@ later_fault d t = first_of (
     ∷ init_fault t.init
     ∷ [])
 
--- each agent, atom and action of the problem has a name, and there are at most 64 objects
+-- each agent, atom and action of the problem has a name, the agents and atoms are those of the tree, within the limits
 pub record IsNamed (g : GroundTask) : Type 0 where
   pub agents : length g.agents ≡ g.problem.initial.agents
   pub atoms : length g.atoms ≡ g.problem.initial.atoms
   pub actions : length g.actions ≡ length g.problem.actions
-  pub objects : length (declarations g.tree).objects ≤ 64
+  pub declared_agents : length g.agents ≡ length (agents_of (declarations g.tree))
+  pub declared_atoms : length g.atoms ≡ length (atoms_of (declarations g.tree))
+  pub within : IsWithin (declarations g.tree)

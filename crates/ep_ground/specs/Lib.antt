@@ -1,1 +1,2 @@
 pub mod Grounding
+pub mod StateText

@@ -1,11 +1,15 @@
-//! What the actions and the goal of a ground task are.
+//! What the actions and the goal of a ground task are, and which trees are grounded.
 
+ghost use Rattle.std.specs.Prelude.{ℕ, ◌≤◌, List, length};
 ghost use Rattle.std.specs.List.{AllByRecursion};
+ghost use Rattle.ep_lex.specs.Tokens.{spellings};
+ghost use Rattle.ep_lex.specs.declared.token.Token.{Token};
+ghost use Rattle.ep_syntax.specs.Grammar.{tasks, Reads};
 ghost use Rattle.ep_syntax.specs.declared.tree.TaskTree.{TaskTree};
 ghost use Rattle.ep_theory.specs.Fits.{ActionFits, Fits};
 ghost use Rattle.ep_types.specs.Tasks.{HasNoFault, declarations};
 ghost use Rattle.ep_parts.specs.Actions.{actions_of};
-ghost use Rattle.ep_parts.specs.Task.{IsExplicit, initial_of, problem_from};
+ghost use Rattle.ep_parts.specs.Task.{IsExplicit, IsRead, initial_of, problem_from};
 
 /// In a task without a fault all ground actions and the goal are among the agents and atoms of the initial state.
 pub fn ground_actions_fit()
@@ -13,4 +17,10 @@ pub fn ground_actions_fit()
         AllByRecursion (ActionFits (initial_of (declarations t) t.init)) (actions_of (declarations t) t.schemas) }
     ensures goal { (t : TaskTree) → HasNoFault t → IsExplicit t.init →
         Fits (initial_of (declarations t) t.init) (problem_from (declarations t) t).goal }
+{}
+
+/// A tree that reads the tokens of a text, at most 262,144 of them, is one that `ground` takes.
+pub fn read_trees_are_taken()
+    ensures { (bytes : List ℕ) (tokens : List Token) (t : TaskTree) → length tokens ≤ 262144 →
+        Reads tasks (spellings bytes tokens) t → IsRead t }
 {}

@@ -10,9 +10,10 @@ ghost use Rattle.ep_ground.specs.Grounding.{IsNamed, later_fault};
 ghost use Rattle.ep_parts.specs.Initial.{explicit_state};
 ghost use Rattle.ep_parts.specs.Links.{agent_count};
 ghost use Rattle.ep_parts.specs.PrintedNames as printed;
-ghost use Rattle.ep_parts.specs.Task.{IsExplicit, IsRead, initial_of, problem_from};
+ghost use Rattle.ep_parts.specs.Task.{IsExplicit, IsRead, initial_of, problem_from, task_of};
 ghost use Rattle.ep_parts.specs.Within.{IsWithinLimits};
 ghost use Rattle.ep_universe.specs.Atoms.{atoms_of};
+ghost use Rattle.ep_universe.specs.Limits.{IsWithin};
 
 use ep_event::Action;
 use ep_kripke::State;
@@ -60,6 +61,31 @@ impl Model for Task {
 }
 
 impl Task {
+    /// The ground task of a tree, from its parts.
+    pub(crate) fn from_parts(typed: Typed, parts: Parts) -> Task
+        requires explicit { IsExplicit typed.init }
+        requires within { IsWithin (declarations typed) }
+        requires agents { parts.agents ≡ printed.agent_names (declarations typed) }
+        requires atoms { parts.atoms ≡ printed.atom_names (declarations typed) }
+        requires actions { parts.actions ≡ printed.action_names (declarations typed) typed.schemas }
+        requires problem { parts.problem ≡ problem_from (declarations typed) typed }
+        ensures { result ≡ task_of typed }
+    {
+        let Parts {
+            agents,
+            atoms,
+            actions,
+            problem,
+        } = parts;
+        Task {
+            typed,
+            agents,
+            atoms,
+            actions,
+            problem,
+        }
+    }
+
     pub fn name(&self) -> &Text
         ensures { result.now ≡ self.now.tree.name.text }
     {
@@ -96,6 +122,18 @@ impl Task {
         ensures named { IsNamed self.now }
     {
         self.problem.actions()
+    }
+
+    pub(crate) fn agent_names(&self) -> &[Text]
+        ensures { result.now ≡ self.now.agents }
+    {
+        self.agents.as_slice()
+    }
+
+    pub(crate) fn atom_names(&self) -> &[Text]
+        ensures { result.now ≡ self.now.atoms }
+    {
+        self.atoms.as_slice()
     }
 
     pub fn agent_name(&self, a: AgentId) -> &Text

@@ -1,4 +1,4 @@
-use Rattle.std.proofs.Common.{◌≡◌, ◌≤◌, None, sym, subst, ap, ◌∙◌, rules, IfOk, length}
+use Rattle.std.proofs.Common.{◌≡◌, None, sym, subst, rules, IfOk, length}
 use Rattle.ep_syntax.specs.declared.tree.InitTree.TheVariants.{Explicit}
 use Rattle.ep_parts.specs.Faults.{init_fault}
 use Rattle.ep_parts.specs.Task.{initial_of}

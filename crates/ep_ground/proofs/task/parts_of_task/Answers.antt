@@ -1,8 +1,7 @@
-use Rattle.std.proofs.Common.{◌≡◌, ◌≤◌, All, sym, subst, ap, ◌∙◌, rules, length, List, arith}
+use Rattle.std.proofs.Common.{◌≡◌, ◌≤◌, All, sym, subst, rules, length, arith}
 use Rattle.ep_syntax.specs.declared.tree.SchemaTree.{SchemaTree}
 use Rattle.ep_types.specs.Tasks.{declarations}
 use Rattle.ep_types.specs.declared.scope.Declared.{Declared}
-use Rattle.ep_parts.specs.Actions.{actions_of}
 use Rattle.ep_parts.specs.PrintedNames.{AreNames, action_names}
 use Rattle.ep_parts.proofs.CandidateLemmas.{few_params}
 use Rattle.ep_parts.proofs.ReadLemmas.{few_fluents}

@@ -1,12 +1,7 @@
-use Rattle.std.proofs.Common.{◌≡◌, sym, subst, ap, ◌∙◌, rules, IsTrue, List, length}
+use Rattle.std.proofs.Common.{◌≡◌, sym, subst, ap, ◌∙◌, rules}
 use Rattle.std.specs.List.{AllByRecursion}
-use Rattle.ep_logic.specs.declared.formula.Node.{Node}
 use Rattle.ep_theory.specs.Kripke.{Kripke}
-use Rattle.ep_theory.specs.Events.{EventModel}
 use Rattle.ep_theory.specs.Fits.{ActionFits, Fits}
-use Rattle.ep_types.specs.Tasks.{declarations}
-use Rattle.ep_types.specs.declared.scope.Declared.{Declared}
-use Rattle.ep_universe.specs.Formulas.{ground_of}
 use Rattle.ep_parts.specs.Actions.{actions_of}
 use Rattle.ep_parts.specs.Task.{initial_of, problem_from}
 use Rattle.ep_ground.proofs.TaskLemmas.{initial_agents, initial_atoms}

@@ -1,11 +1,10 @@
-use Rattle.std.proofs.Common.{◌≡◌, None, All, ap, sym, ◌∙◌, subst, rules, IfErr, Result, Ok, Err, Some}
+use Rattle.std.proofs.Common.{◌≡◌, None, All, ap, sym, ◌∙◌, subst, rules, Some}
 use Rattle.ep_parts.specs.Actions.{actions_of}
 use Rattle.ep_parts.specs.Bodies.{IsBuildableSchema}
-use Rattle.ep_parts.specs.Faults.{Reports, atom_twice, init_fault}
+use Rattle.ep_parts.specs.Faults.{atom_twice, init_fault}
 use Rattle.ep_ground.specs.Grounding.{later_fault}
 use Rattle.ep_parts.specs.PrintedNames.{action_names}
-use Rattle.ep_parts.proofs.FaultLemmas.{reports, reported}
-use Rattle.ep_ground.proofs.TaskLemmas.{schemas_buildable, later_none, later_first, later_second, told_none, told_some, reports_some, err_reports}
+use Rattle.ep_ground.proofs.TaskLemmas.{schemas_buildable, later_second, told_some, err_reports}
 use Rattle.ep_ground.proofs.task.sound_actions.Goals as goal
 
 pub ground_actions-requires-clause-schemas : goal.ground_actions-requires-clause-schemas

@@ -1,9 +1,10 @@
 -- What bytes say as a plan file is one thing.
 use Rattle.std.proofs.Common.{◌≡◌, ◌≢◌, ℕ, ◌≤◌, ◌<◌, List, length, Result, Ok, Err, IfOk, IfErr, All, refl, sym, ap, ◌∙◌, subst, arith, ◌⊎◌, inl, inr, ⊎_elim}
+use Rattle.std.specs.Prelude.{AllPairs}
 use Rattle.std.proofs.lemmas.Bool.{cases_lt}
 use Rattle.ep_lex.specs.declared.token.Token.{Token}
 use Rattle.ep_lex.specs.Pieces.{IsStray}
-use Rattle.ep_lex.specs.Tokens.{AreTokens, HasTooManyTokens, Lexed, end_line_of, line_at, spellings}
+use Rattle.ep_lex.specs.Tokens.{HasTooManyTokens, Lexed, end_line_of, line_at, spellings}
 use Rattle.ep_lex.proofs.Faults.{stray-unique, stray-no_tokens}
 use Rattle.ep_lex.proofs.TokenLaws.{tokens-unique}
 use Rattle.ep_logic.specs.declared.ids.ActionId.{ActionId}
@@ -13,8 +14,8 @@ use Rattle.ep_parts.specs.Task.{GroundTask}
 use Rattle.ep_plan_text.specs.declared.read.PlanError.{PlanError}
 use Rattle.ep_plan_text.specs.declared.read.PlanError.TheVariants as error
 use Rattle.ep_plan_text.specs.Calls.{NameActions}
-use Rattle.ep_plan_text.specs.PlanFiles.{line_of, HasTokens, IsFile, IsSyntaxFault, IsFileFault, IsOfTask, IsPlanOf, IsUnknownAt, IsMiscounted, IsTreeFault, HasTreeFault, IsFault, IsPlan}
-use Rattle.ep_plan_text.proofs.CallLemmas.{one_unknown, known_or_not, named_all}
+use Rattle.ep_plan_text.specs.PlanFiles.{line_of, HasTokens, IsFile, IsSyntaxFault, IsFileFault, IsPlanOf, IsTreeFault, HasTreeFault, IsFault, IsPlan}
+use Rattle.ep_plan_text.proofs.CallLemmas.{one_plan, one_unknown, known_or_not, named_all}
 use Rattle.ep_plan_text.proofs.TreeLemmas.{file_tokens, file_trees}
 
 -- ---- the faults of a tree
@@ -216,3 +217,9 @@ pub told_fault : (g : GroundTask) (bytes : List ℕ) (r : Result (List ActionId)
     → (e : PlanError) → IsFault g bytes e → TellsFault r e
 told_fault g bytes (Ok p) a b e x = absurd (plan_or_fault g bytes p e a x)
 told_fault g bytes (Err f) a b e x = ⊎_elim (λ none. inr (ap Err none)) (λ y. inl (ap Err (fault_one g bytes f e y x))) b
+
+-- bytes are one plan
+pub plan_one : (g : GroundTask) (bytes : List ℕ) (p q : List ActionId) → AllPairs (λ x y. x ≢ y) g.actions → IsPlan g bytes p → IsPlan g bytes q → p ≡ q
+plan_one g bytes p q apart x y =
+    one_plan g x.tree.calls p q apart x.plan_of.named
+    (subst (λ z. NameActions g z.calls q) (sym (file_trees bytes x.tokens y.tokens x.tree y.tree x.file y.file)) y.plan_of.named)

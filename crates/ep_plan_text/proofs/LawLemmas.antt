@@ -1,10 +1,9 @@
 -- The text of a plan is read as the plan.
-use Rattle.std.proofs.Common.{◌≡◌, ℕ, zero, suc, ◌+◌, ◌*◌, ◌^◌, ◌≤◌, ◌<◌, Bool, true, false, cond, List, [], ◌∷◌, ◌++◌, length, map, get_or, take, Some, All, refl, sym, ap, ◌∙◌, subst, arith, length-append}
-use Rattle.std.specs.Prelude.{slice_get}
+use Rattle.std.proofs.Common.{◌≡◌, ℕ, suc, ◌*◌, ◌^◌, ◌≤◌, ◌<◌, Bool, true, false, cond, List, [], ◌∷◌, length, map, get_or, Some, All, refl, sym, ap, ◌∙◌, subst, arith, length-append}
 use Rattle.std.specs.List.{flat_map}
 use Rattle.std.proofs.lemmas.List.{length-map}
 use Rattle.std.proofs.lemmas.List.Elements.{All-nil, All-cons, All-head, All-tail, All-append, All-map, All-get_or, All-from_get_or, All-weaker, All-filter}
-use Rattle.std.proofs.lemmas.Option.{get_or_from_slice_get, slice_get-get_or}
+use Rattle.std.proofs.lemmas.Option.{slice_get-get_or}
 use Rattle.ep_binding.specs.Bindings.{bindings, distinct_bindings, all_different, IsBinding}
 use Rattle.ep_binding.proofs.LawsLemmas.{all-bindings}
 use Rattle.ep_lex.specs.declared.token.Token.{Token}
@@ -20,10 +19,10 @@ use Rattle.ep_syntax.specs.declared.tree.ObjectTree.{ObjectTree}
 use Rattle.ep_syntax.specs.declared.tree.PlanTree.{PlanTree}
 use Rattle.ep_syntax.specs.declared.tree.SchemaTree.{SchemaTree}
 use Rattle.ep_syntax.specs.declared.tree.TaskTree.{TaskTree}
-use Rattle.ep_syntax.specs.Bare.{bare_name, bare_names, bare_call, bare_plan}
+use Rattle.ep_syntax.specs.Bare.{bare_names, bare_call, bare_plan}
 use Rattle.ep_syntax.specs.Formed.{Each, OneOrMore, IsFormedName, IsFormedCall, IsFormedPlan, IsFormedObject, IsFormedSchema}
 use Rattle.ep_syntax.specs.Grammar.{plans, spelling_of, Reads}
-use Rattle.ep_syntax.specs.Marks.{Mark, fixed, named, texts}
+use Rattle.ep_syntax.specs.Marks.{fixed, named}
 use Rattle.ep_syntax.specs.PlanReading.{plan as plan_reader}
 use Rattle.ep_syntax.specs.Spelling as spell
 use Rattle.ep_syntax.specs.Spelling.{behind}
@@ -42,10 +41,10 @@ use Rattle.ep_parts.specs.Task.{GroundTask, IsRead, task_of}
 use Rattle.ep_parts.proofs.CandidateLemmas.{few_params, HasFewParams}
 use Rattle.ep_parts.proofs.NameLemmas.{AreBelow, objects-declared, schema-below}
 use Rattle.ep_plan_text.specs.declared.print.Mark.{Mark as PlanMark}
-use Rattle.ep_plan_text.specs.Calls.{name_of as call_name, NamesAction, NameActions}
-use Rattle.ep_plan_text.specs.PlanFiles.{HasTokens, IsFile, IsPlan, IsPlanOf}
+use Rattle.ep_plan_text.specs.Calls.{name_of as call_name, NameActions}
+use Rattle.ep_plan_text.specs.PlanFiles.{IsPlan, IsPlanOf}
 use Rattle.ep_plan_text.specs.PlanText.{action_name as name_at, lines, plan_text}
-use Rattle.ep_plan_text.proofs.LayoutLemmas.{whole_pieces, whole_lines, whole_is_split, whole_texts, tree_of}
+use Rattle.ep_plan_text.proofs.LayoutLemmas.{whole_pieces, whole_lines, whole_is_split, whole_long, whole_texts, tree_of}
 
 -- ---- names are those of calls
 
@@ -275,6 +274,16 @@ module _ (g : GroundTask) (mk : PlanMark) (plan : List ActionId) (named_task : i
     plan_of = is_plan_of;
   }
 
+  pub is_short : length text ≤ 1048576
+  is_short =
+      let long = whole_long g.tree.name mk (length plan) chosen.calls named_task small chosen.formed chosen.short in
+      let same : length (lines (whole_lines name mk (length plan) (map call_name chosen.calls))) ≡ length text = ap (λ z. length (lines (whole_lines name mk (length plan) z))) chosen.names in
+      omega (arith, long, same, calls_few)
+
 pub read_again : (t : TaskTree) (mk : PlanMark) (plan : List ActionId) → HasNoFault t → IsRead t → length plan ≤ 1000 → All (λ a. a.n < length (task_of t).actions) plan
     → IsPlan (task_of t) (plan_text (task_of t) mk plan) plan
 read_again t mk plan fine read few all = is_read_again (task_of t) mk plan read.formed.0 few (choose (task_of t) plan (task_calls t fine read) all)
+
+pub text_short : (t : TaskTree) (mk : PlanMark) (plan : List ActionId) → HasNoFault t → IsRead t → length plan ≤ 1000 → All (λ a. a.n < length (task_of t).actions) plan
+    → length (plan_text (task_of t) mk plan) ≤ 1048576
+text_short t mk plan fine read few all = is_short (task_of t) mk plan read.formed.0 few (choose (task_of t) plan (task_calls t fine read) all)

@@ -1,13 +1,15 @@
 -- The text of a plan splits into the tokens of its tree.
-use Rattle.std.proofs.Common.{◌≡◌, ℕ, zero, suc, ◌+◌, ◌^◌, ◌≤◌, ◌<◌, Bool, true, false, ◌&&◌, List, [], ◌∷◌, ◌++◌, length, map, refl, sym, ap, ◌∙◌, subst, arith, append_assoc, append-nil, length-append}
-use Rattle.std.specs.Prelude.{codes}
+use Rattle.std.proofs.Common.{◌≡◌, ℕ, ◌+◌, ◌*◌, ◌^◌, ◌≤◌, ◌<◌, true, ◌&&◌, List, [], ◌∷◌, ◌++◌, length, map, refl, sym, ap, ◌∙◌, subst, arith, append_assoc, length-append}
+use Rattle.std.specs.Prelude.{codes, nat_le}
 use Rattle.std.specs.Fmt.{decimal}
-use Rattle.std.specs.List.{flat_map, join_with_byte}
+use Rattle.std.specs.List.{flat_map, join_with_byte, list_all}
+use Rattle.std.proofs.lemmas.Bool.{leb-true}
+use Rattle.std.proofs.lemmas.Fmt.{length-decimal-le}
 use Rattle.std.proofs.lemmas.List.Concat.{flat_map-append}
 use Rattle.ep_lex.specs.declared.token.TokenKind.TheVariants as kind
 use Rattle.ep_lex.specs.declared.token.PieceKind.{PieceKind}
 use Rattle.ep_lex.specs.declared.token.PieceKind.TheVariants.{Blank, Comment, Spelling}
-use Rattle.ep_lex.specs.Pieces.{is_piece, ends, Piece, Split}
+use Rattle.ep_lex.specs.Pieces.{is_letter, is_word_byte, is_piece, ends, Piece, Split}
 use Rattle.ep_lex.proofs.TokenLaws.{texts_of}
 use Rattle.ep_name.specs.Names.{printed}
 use Rattle.ep_syntax.specs.declared.terminal.Terminal.TheVariants as the
@@ -237,3 +239,44 @@ whole_texts name mk n cs =
     let front = λ (z : List (List ℕ)). codes "plan" ∷ codes "1" ∷ codes "task" ∷ name ∷ z in
     ap front (mark_texts mk (count_pieces n (call_pieces cs end_pieces)))
     ∙ ap (λ z. front (codes "actions" ∷ decimal n ∷ z)) (calls_texts cs end_pieces ∙ sym (texts-append (flat_map spell.call cs) (fixed the.End ∷ [])))
+
+-- ---- how long it is
+
+name_long : (n : Name) → IsFormedName n → length n.text ≤ 64
+name_long n f = by_text n.text (name_is n f)
+  where
+    by_text : (text : List ℕ) → is_piece (Spelling kind.Word) text ≡ true → length text ≤ 64
+    by_text [] p = omega arith
+    by_text (b ∷ bs) p =
+        let few : length bs ≤ 63 = leb-true (length bs) 63 (both_true (is_letter b && list_all is_word_byte bs) (nat_le (length bs) 63) p).1 in
+        omega arith
+
+objects_long : (o : Name) (ns : List Name) (rest : List ℕ) → IsFormedName o → Each IsFormedName ns → length (objects_then o.text ns rest) ≤ 66 + 65 * length ns + length rest
+objects_long o [] rest f g = omega (arith, name_long o f, length-append o.text (41 ∷ 10 ∷ rest))
+objects_long o (n ∷ ns) rest f g = omega (arith, name_long o f, objects_long n ns rest g.0 g.1, length-append o.text (44 ∷ objects_then n.text ns rest))
+
+args_long : (n : Name) (ns : List Name) (rest : List ℕ) → IsFormedName n → Each IsFormedName ns → length ns ≤ 6 → length (args_then n.text ns rest) ≤ 456 + length rest
+args_long n [] rest f g l = omega (arith, name_long n f, length-append n.text (10 ∷ rest))
+args_long n (o ∷ ns) rest f g l = omega (arith, name_long n f, objects_long o ns rest g.0 g.1, length-append n.text (40 ∷ objects_then o.text ns rest))
+
+calls_bytes : (cs : List CallTree) (rest : List ℕ) → Each IsFormedCall cs → Each (λ c. length c.args ≤ 6) cs → length (lines (map name_of cs) ++ rest) ≤ 456 * length cs + length rest
+calls_bytes [] rest f g = omega arith
+calls_bytes (c ∷ cs) rest f g =
+    let others = lines (map name_of cs) in
+    let same = append_assoc (line (name_of c)) others rest ∙ line-printed c.name.text c.args (others ++ rest) in
+    omega (arith, ap length same, args_long c.name c.args (others ++ rest) f.0.0 f.0.1 g.0, calls_bytes cs rest f.1 g.1)
+
+mark_long : (mk : PlanMark) (rest : List ℕ) → length (mark_then mk rest) ≤ 11 + length rest
+mark_long Plain rest = omega arith
+mark_long Shortest rest = omega arith
+mark_long Found rest = omega arith
+
+count_long : (n : ℕ) (rest : List ℕ) → n < 10 ^ 9 → length (count_then n rest) ≤ 18 + length rest
+count_long n rest l = omega (arith, length-decimal-le 9 n (omega arith) l (omega arith), length-append (decimal n) (10 ∷ rest))
+
+pub whole_long : (name : Name) (mk : PlanMark) (n : ℕ) (cs : List CallTree) → IsFormedName name → n < 10 ^ 9 → Each IsFormedCall cs → Each (λ c. length c.args ≤ 6) cs
+    → length (lines (whole_lines name.text mk n (map name_of cs))) ≤ 110 + 456 * length cs
+whole_long name mk n cs f l g h =
+    let calls = lines (map name_of cs) ++ codes "end\n" in
+    let rest = mark_then mk (count_then n calls) in
+    omega (arith, ap length (lines-whole name.text mk n cs), name_long name f, length-append name.text (10 ∷ rest), mark_long mk (count_then n calls), count_long n calls l, calls_bytes cs (codes "end\n") g h)

@@ -1,17 +1,17 @@
 -- A plan file has one tree, whose calls stand at its tokens.
-use Rattle.std.proofs.Common.{◌≡◌, ℕ, zero, suc, ◌+◌, ◌≤◌, ◌<◌, List, [], ◌∷◌, ◌++◌, length, map, Option, Some, None, All, refl, sym, ap, ◌∙◌, subst, arith, length-append}
+use Rattle.std.proofs.Common.{◌≡◌, ℕ, suc, ◌+◌, ◌≤◌, ◌<◌, List, [], ◌∷◌, ◌++◌, length, map, All, refl, sym, ap, ◌∙◌, subst, arith, length-append}
 use Rattle.std.specs.List.{flat_map}
 use Rattle.std.proofs.lemmas.List.Elements.{All-nil, All-cons}
 use Rattle.ep_lex.specs.declared.token.Token.{Token}
-use Rattle.ep_lex.specs.Tokens.{AreTokens, spellings}
+use Rattle.ep_lex.specs.Tokens.{spellings}
 use Rattle.ep_lex.proofs.TokenLaws.{tokens-unique}
 use Rattle.ep_syntax.specs.declared.terminal.Terminal.TheVariants as the
 use Rattle.ep_syntax.specs.declared.tree.Name.{Name}
 use Rattle.ep_syntax.specs.declared.tree.CallTree.{CallTree}
 use Rattle.ep_syntax.specs.declared.tree.PlanTree.{PlanTree}
 use Rattle.ep_syntax.specs.Bare.{bare_name, bare_names, bare_call, bare_plan}
-use Rattle.ep_syntax.specs.Grammar.{plans, spelling_of, Reads}
-use Rattle.ep_syntax.specs.Marks.{Mark, fixed, named, texts, PlacedFrom}
+use Rattle.ep_syntax.specs.Grammar.{plans, Reads}
+use Rattle.ep_syntax.specs.Marks.{Mark, fixed, named, PlacedFrom}
 use Rattle.ep_syntax.specs.PlanReading.{plan}
 use Rattle.ep_syntax.specs.Spelling as spell
 use Rattle.ep_syntax.specs.Spelling.{behind}

@@ -10,7 +10,7 @@ use Rattle.ep_syntax.specs.Grammar.{plans, Reads, SyntaxAt}
 use Rattle.ep_parts.specs.Task.{GroundTask}
 use Rattle.ep_plan_text.specs.Calls.{NameActions, IsFirstUnknown}
 use Rattle.ep_plan_text.specs.declared.read.PlanError.{PlanError}
-use Rattle.ep_plan_text.specs.declared.read.PlanError.TheVariants.{Stray, TooManyTokens, Syntax, OtherTask, UnknownAction, WrongCount, OutOfMemory}
+use Rattle.ep_plan_text.specs.declared.read.PlanError.TheVariants.{Stray, TooManyTokens, Syntax, OtherTask, UnknownAction, WrongCount}
 
 -- the line of a token by its number, or of the end
 abbrev pub line_of : List ℕ → List Token → ℕ → ℕ

@@ -1,5 +1,4 @@
-use Rattle.std.proofs.Common.{◌≡◌, ◌++◌, ◌<◌, length, sym, ap, ◌∙◌, subst, append_assoc, map, take, Some, get_or, arith}
-use Rattle.std.specs.Prelude.{slice_get}
+use Rattle.std.proofs.Common.{◌++◌, sym, ap, ◌∙◌, append_assoc, map, take}
 use Rattle.ep_plan_text.specs.PlanText.{action_name, line, lines}
 use Rattle.ep_plan_text.proofs.LineLemmas.{lines-next}
 use Rattle.ep_plan_text.proofs.print.action_lines.Goals as goal

@@ -1,6 +1,5 @@
-use Rattle.std.proofs.Common.{◌≡◌, ◌≢◌, ◌<◌, ◌+◌, ℕ, zero, suc, List, length, take, All, Some, refl, sym, ap, ◌∙◌, subst, arith, inr}
+use Rattle.std.proofs.Common.{◌≡◌, ◌≢◌, ◌+◌, take, All, Some, refl, sym, ap, ◌∙◌, subst, arith, inr}
 use Rattle.std.proofs.lemmas.List.{take_all}
-use Rattle.ep_logic.specs.declared.ids.ActionId.{ActionId}
 use Rattle.ep_plan_text.specs.Calls.{name_of, NamesAction, NamesNone, NameActions}
 use Rattle.ep_plan_text.proofs.CallLemmas.{named_more, first_unknown, one_of}
 use Rattle.ep_plan_text.proofs.read.named_actions.Goals as goal

@@ -1,9 +1,9 @@
-use Rattle.std.proofs.Common.{◌≡◌, length, arith, ap, sym, ◌∙◌}
+use Rattle.std.proofs.Common.{arith}
 use Rattle.std.proofs.lemmas.Result.{err_from_is_err_and}
 use Rattle.std.proofs.lemmas.List.{length-map}
 use Rattle.ep_lex.specs.Tokens.{spelling, spellings}
-use Rattle.ep_plan_text.proofs.AnswerLemmas.{file_fault_is, judged_plan, judged_fault, judged_all, alone_there, told_plan, told_fault, err_plan, err_fault}
-use Rattle.ep_plan_text.proofs.TreeLemmas.{AreAmong, calls_among}
+use Rattle.ep_plan_text.proofs.AnswerLemmas.{judged_plan, judged_fault, judged_all, alone_there, told_plan, told_fault, err_plan, err_fault}
+use Rattle.ep_plan_text.proofs.TreeLemmas.{calls_among}
 use Rattle.ep_plan_text.proofs.read.read_plan.Goals as goal
 
 pub returns-in_err-file-clause-plan_is_told : goal.returns-in_err-file-clause-plan_is_told

@@ -1,0 +1,7 @@
+pub mod TreeLemmas
+pub mod CallLemmas
+pub mod NameLemmas
+pub mod AnswerLemmas
+pub mod LayoutLemmas
+pub mod LawLemmas
+pub mod LineLemmas

@@ -1,0 +1,62 @@
+use Rattle.std.proofs.Common.{arith}
+use Rattle.std.proofs.lemmas.Result.{err_from_is_err_and}
+use Rattle.std.proofs.lemmas.List.{length-map}
+use Rattle.ep_lex.specs.Tokens.{spelling, spellings}
+use Rattle.ep_plan_text.proofs.AnswerLemmas.{judged_plan, judged_fault, judged_all, alone_there, told_plan, told_fault, err_plan, err_fault}
+use Rattle.ep_plan_text.proofs.TreeLemmas.{calls_among}
+use Rattle.ep_plan_text.proofs.read.read_plan.Goals as goal
+
+pub returns-in_err-file-clause-plan_is_told : goal.returns-in_err-file-clause-plan_is_told
+returns-in_err-file-clause-plan_is_told c =
+    let p = err_from_is_err_and c.from_residual.result c.from_residual.ensures.1 in
+    rw (p.1, p.2) (err_plan c.args.task.now c.args.bytes.now _ c.in_err-file.ensures.fault)
+
+pub returns-in_err-file-clause-fault_is_told : goal.returns-in_err-file-clause-fault_is_told
+returns-in_err-file-clause-fault_is_told c =
+    let p = err_from_is_err_and c.from_residual.result c.from_residual.ensures.1 in
+    rw (p.1, p.2) (err_fault c.args.task.now c.args.bytes.now _ c.in_err-file.ensures.fault)
+
+pub judged-requires-clause-places : goal.judged-requires-clause-places
+judged-requires-clause-places c = λ k d l.
+    let file = c.in_ok-file.file in
+    let among = calls_among (spellings c.args.bytes.now file.tokens.tokens) file.tree c.in_ok-file.ensures.file.reads in
+    omega (arith, among.places k d l, length-map file.tokens.tokens (spelling c.args.bytes.now))
+
+pub judged-requires-clause-few : goal.judged-requires-clause-few
+judged-requires-clause-few c =
+    let file = c.in_ok-file.file in
+    let among = calls_among (spellings c.args.bytes.now file.tokens.tokens) file.tree c.in_ok-file.ensures.file.reads in
+    omega (arith, among.few, length-map file.tokens.tokens (spelling c.args.bytes.now), c.in_ok-file.ensures.file.has.few)
+
+pub returns-clause-plan_is_told : goal.returns-clause-plan_is_told
+returns-clause-plan_is_told c =
+    let file = c.in_ok-file.file in
+    let g = c.args.task.now in
+    let bytes = c.args.bytes.now in
+    let r = c.judged.result in
+    told_plan g bytes r (judged_plan g bytes file.tokens file.tree r c.in_ok-file.ensures.file c.judged.ensures.plan)
+    (judged_fault g bytes file.tokens file.tree r c.in_ok-file.ensures.file c.in_ok-file.ensures.end_line c.judged.ensures.fault)
+    (alone_there g bytes file.tokens.tokens file.tree r c.in_ok-file.ensures.file c.judged.ensures.only)
+
+pub returns-clause-fault_is_told : goal.returns-clause-fault_is_told
+returns-clause-fault_is_told c =
+    let file = c.in_ok-file.file in
+    let g = c.args.task.now in
+    let bytes = c.args.bytes.now in
+    let r = c.judged.result in
+    told_fault g bytes r (judged_plan g bytes file.tokens file.tree r c.in_ok-file.ensures.file c.judged.ensures.plan)
+    (judged_fault g bytes file.tokens file.tree r c.in_ok-file.ensures.file c.in_ok-file.ensures.end_line c.judged.ensures.fault)
+
+pub returns-clause-few : goal.returns-clause-few
+returns-clause-few c =
+    let file = c.in_ok-file.file in
+    let among = calls_among (spellings c.args.bytes.now file.tokens.tokens) file.tree c.in_ok-file.ensures.file.reads in
+    (judged_all c.args.task.now file.tree 262144 c.judged.result
+    (omega (arith, among.few, length-map file.tokens.tokens (spelling c.args.bytes.now), c.in_ok-file.ensures.file.has.few)) c.judged.ensures.plan).0
+
+pub returns-clause-of_task : goal.returns-clause-of_task
+returns-clause-of_task c =
+    let file = c.in_ok-file.file in
+    let among = calls_among (spellings c.args.bytes.now file.tokens.tokens) file.tree c.in_ok-file.ensures.file.reads in
+    (judged_all c.args.task.now file.tree 262144 c.judged.result
+    (omega (arith, among.few, length-map file.tokens.tokens (spelling c.args.bytes.now), c.in_ok-file.ensures.file.has.few)) c.judged.ensures.plan).1

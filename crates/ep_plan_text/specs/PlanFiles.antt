@@ -1,0 +1,97 @@
+-- What bytes say as a plan file for a ground task: the plan, or the first fault.
+use Rattle.std.specs.Prelude.{◌≡◌, ◌≢◌, ℕ, ◌≤◌, List, length}
+use Rattle.ep_lex.specs.declared.token.Token.{Token}
+use Rattle.ep_lex.specs.Pieces.{IsStray}
+use Rattle.ep_lex.specs.Tokens.{AreTokens, HasTooManyTokens, end_line_of, line_at, spellings}
+use Rattle.ep_logic.specs.declared.ids.ActionId.{ActionId}
+use Rattle.ep_syntax.specs.declared.tree.CallTree.{CallTree}
+use Rattle.ep_syntax.specs.declared.tree.PlanTree.{PlanTree}
+use Rattle.ep_syntax.specs.Grammar.{plans, Reads, SyntaxAt}
+use Rattle.ep_parts.specs.Task.{GroundTask}
+use Rattle.ep_plan_text.specs.Calls.{NameActions, IsFirstUnknown}
+use Rattle.ep_plan_text.specs.declared.read.PlanError.{PlanError}
+use Rattle.ep_plan_text.specs.declared.read.PlanError.TheVariants.{Stray, TooManyTokens, Syntax, OtherTask, UnknownAction, WrongCount}
+
+-- the line of a token by its number, or of the end
+abbrev pub line_of : List ℕ → List Token → ℕ → ℕ
+line_of bytes tokens i = line_at (record { tokens = tokens; end_line = end_line_of bytes }) i
+
+-- the tokens of the bytes, within their limit
+pub record HasTokens (bytes : List ℕ) (tokens : List Token) : Type 0 where
+  pub are_tokens : AreTokens bytes tokens
+  pub few : length tokens ≤ 262144
+
+-- the bytes are a plan file, with these tokens and this tree
+pub record IsFile (bytes : List ℕ) (tokens : List Token) (tree : PlanTree) : Type 0 where
+  pub has : HasTokens bytes tokens
+  pub reads : Reads plans (spellings bytes tokens) tree
+
+-- ---- faults of the file by itself
+
+pub record IsSyntaxFault (bytes : List ℕ) (token line : ℕ) : Type 0 where
+  pub tokens : List Token
+  pub has : HasTokens bytes tokens
+  pub fault : SyntaxAt plans (spellings bytes tokens) token
+  pub line_is : line ≡ line_of bytes tokens token
+
+abbrev pub IsFileFault : List ℕ → PlanError → Type 0
+IsFileFault bytes (Stray at) = IsStray bytes at
+IsFileFault bytes TooManyTokens = HasTooManyTokens bytes
+IsFileFault bytes (Syntax token line) = IsSyntaxFault bytes token line
+IsFileFault bytes _ = ⊥
+
+-- ---- what a plan file says
+
+-- the tree names the task
+abbrev pub IsOfTask : GroundTask → PlanTree → Type 0
+IsOfTask g tree = tree.task.text ≡ g.tree.name.text
+
+-- the plan of a tree
+pub record IsPlanOf (g : GroundTask) (tree : PlanTree) (plan : List ActionId) : Type 0 where
+  pub task : IsOfTask g tree
+  pub named : NameActions g tree.calls plan
+  pub count : tree.count ≡ length tree.calls
+
+-- some call names no ground action, and the line is that of the name of the first such
+pub record IsUnknownAt (g : GroundTask) (line_of_token : ℕ → ℕ) (calls : List CallTree) (line : ℕ) : Type 0 where
+  pub call : CallTree
+  pub first : IsFirstUnknown g calls call
+  pub line_is : line ≡ line_of_token call.name.token
+
+-- all calls name actions, and the plan states another number of them
+pub record IsMiscounted (g : GroundTask) (tree : PlanTree) (stated listed : ℕ) : Type 0 where
+  pub actions : List ActionId
+  pub named : NameActions g tree.calls actions
+  pub stated_is : stated ≡ tree.count
+  pub listed_is : listed ≡ length tree.calls
+  pub differ : stated ≢ listed
+
+-- the faults of a tree, where this gives the lines of tokens
+abbrev pub IsTreeFault : GroundTask → (ℕ → ℕ) → PlanTree → PlanError → Type 0
+IsTreeFault g line_of_token tree OtherTask = tree.task.text ≢ g.tree.name.text
+IsTreeFault g line_of_token tree (UnknownAction line) = IsOfTask g tree × IsUnknownAt g line_of_token tree.calls line
+IsTreeFault g line_of_token tree (WrongCount stated listed) = IsOfTask g tree × IsMiscounted g tree stated listed
+IsTreeFault g line_of_token tree _ = ⊥
+
+-- ---- what the bytes say
+
+-- the bytes are a plan file whose tree has the fault
+pub record HasTreeFault (g : GroundTask) (bytes : List ℕ) (e : PlanError) : Type 0 where
+  pub tokens : List Token
+  pub tree : PlanTree
+  pub file : IsFile bytes tokens tree
+  pub fault : IsTreeFault g (line_of bytes tokens) tree e
+
+-- the first fault of the bytes
+abbrev pub IsFault : GroundTask → List ℕ → PlanError → Type 0
+IsFault g bytes OtherTask = HasTreeFault g bytes OtherTask
+IsFault g bytes (UnknownAction line) = HasTreeFault g bytes (UnknownAction line)
+IsFault g bytes (WrongCount stated listed) = HasTreeFault g bytes (WrongCount stated listed)
+IsFault g bytes e = IsFileFault bytes e
+
+-- the plan that the bytes are
+pub record IsPlan (g : GroundTask) (bytes : List ℕ) (plan : List ActionId) : Type 0 where
+  pub tokens : List Token
+  pub tree : PlanTree
+  pub file : IsFile bytes tokens tree
+  pub plan_of : IsPlanOf g tree plan

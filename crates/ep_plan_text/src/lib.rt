@@ -1,0 +1,12 @@
+//! Plan files of ground tasks: their reader, and the texts of plans.
+#![tactic(auto)]
+
+pub mod laws;
+mod print;
+mod read;
+
+pub use print::{Mark, print_plan};
+pub use read::{PlanError, read_plan};
+
+#[cfg(test)]
+mod tests;

@@ -1,0 +1,135 @@
+use crate::{Mark, PlanError, print_plan, read_plan};
+use ep_ground::{Task, ground};
+use ep_lex::tokens;
+use ep_logic::{ActionId, List};
+use ep_problem::Plan;
+use ep_syntax::{InitTree, read_task};
+use ep_types::check;
+use std::alloc::Global;
+use std::process::Abort;
+use std::test::Fail;
+
+// The ground actions are peek(ann), peek(bob) and twice.
+const COIN: &str = "task coin; objects { ann, bob : agent; } fluents { heads; } \
+    init { world u { heads } world v { } designated { u } links all all; } \
+    action peek(a : agent) { sense heads by { a }; } \
+    action twice { event e pre true { } event f pre true { } designated { e, f } links all all; } \
+    goal (knows ann heads and not knows bob heads);";
+
+fn coin(rt: &impl Abort, alloc: Global) -> Result<Task, Fail> {
+    let bytes = COIN.as_bytes();
+    assert!(rt; bytes.len() <= 1_048_576);
+    let found = tokens(alloc, bytes)?;
+    let _count = found.count();
+    let typed = check(alloc, read_task(alloc, bytes, &found)?)?;
+    let InitTree::Explicit { .. } = &typed.tree().init else {
+        return Err("not explicit".into());
+    };
+    Ok(ground(alloc, typed)?)
+}
+
+fn read(rt: &impl Abort, alloc: Global, task: &Task, text: &[u8]) -> Result<Plan, PlanError> {
+    assert!(rt; text.len() <= 1_048_576);
+    read_plan(alloc, task, text)
+}
+
+// Comments and lines mean nothing.
+#[test]
+fn a_plan_with_comments(rt: HostRuntime) -> Result<(), Fail> {
+    let text =
+        "# by hand\nplan 1 task coin\nactions 3 # of them\ntwice peek\n( bob\n) peek(ann)\nend # .";
+    let task = coin(&rt, rt.alloc())?;
+    let plan = read(&rt, rt.alloc(), &task, text.as_bytes())?;
+    let want = [2u32, 1, 0].map(|n| ActionId { n });
+    assert_eq!(rt; plan.as_slice(), want.as_slice());
+    Ok(())
+}
+
+#[test]
+fn refused_plans(rt: HostRuntime) -> Result<(), Fail> {
+    let rows = [
+        ("plan 1\ntask coin\n?", PlanError::Stray { at: 17 }),
+        (
+            "plan 2\ntask coin\nactions 0\nend\n",
+            PlanError::Syntax { token: 1, line: 1 },
+        ),
+        (
+            "plan 1\ntask coin\nactions 01\ntwice\nend\n",
+            PlanError::Syntax { token: 5, line: 3 },
+        ),
+        (
+            "plan 1\ntask coin\nactions 1\npeek(an",
+            PlanError::Syntax { token: 9, line: 4 },
+        ),
+        (
+            "plan 1\ntask other\nactions 2\nfly\nend\n",
+            PlanError::OtherTask,
+        ),
+        (
+            "plan 1\ntask coin\nactions 2\nfly\nend\n",
+            PlanError::UnknownAction { line: 4 },
+        ),
+        (
+            "plan 1\ntask coin\nactions 1\ntwice\npeek\nend\n",
+            PlanError::UnknownAction { line: 5 },
+        ),
+        (
+            "plan 1\ntask coin\nactions 2\ntwice\nend\n",
+            PlanError::WrongCount {
+                stated: 2,
+                listed: 1,
+            },
+        ),
+    ];
+    let task = coin(&rt, rt.alloc())?;
+    for (text, want) in rows {
+        let found = read(&rt, rt.alloc(), &task, text.as_bytes()).err();
+        assert_eq!(rt; found, Some(want), "{text}");
+    }
+    Ok(())
+}
+
+fn too_many(alloc: Global) -> Result<Vec<u8>, Fail> {
+    let mut text = Vec::new(alloc);
+    for _ in 0..262_145 {
+        text.extend_from_slice(b"x ")?;
+    }
+    Ok(text)
+}
+
+#[test]
+fn too_many_tokens(rt: HostRuntime) -> Result<(), Fail> {
+    let task = coin(&rt, rt.alloc())?;
+    let text = too_many(rt.alloc())?;
+    let found = read(&rt, rt.alloc(), &task, text.as_slice()).err();
+    assert_eq!(rt; found, Some(PlanError::TooManyTokens));
+    Ok(())
+}
+
+#[test]
+fn printed_plans(rt: HostRuntime) -> Result<(), Fail> {
+    let rows = [
+        (
+            Mark::Plain,
+            "plan 1\ntask coin\nactions 2\ntwice\npeek(ann)\nend\n",
+        ),
+        (
+            Mark::Shortest,
+            "plan 1\ntask coin\n# shortest\nactions 2\ntwice\npeek(ann)\nend\n",
+        ),
+        (
+            Mark::Found,
+            "plan 1\ntask coin\n# found\nactions 2\ntwice\npeek(ann)\nend\n",
+        ),
+    ];
+    let task = coin(&rt, rt.alloc())?;
+    let mut plan = List::new(rt.alloc());
+    plan.push(ActionId { n: 2 })?;
+    plan.push(ActionId { n: 0 })?;
+    assert!(rt; plan.as_slice().iter().all(|a| a.n < task.actions()));
+    for (mark, want) in rows {
+        let text = print_plan(rt.alloc(), &task, &plan, mark)?;
+        assert_eq!(rt; text.as_slice(), want.as_bytes());
+    }
+    Ok(())
+}

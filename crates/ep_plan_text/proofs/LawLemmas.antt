@@ -37,7 +37,8 @@ use Rattle.ep_types.specs.declared.scope.Declared.{Declared}
 use Rattle.ep_universe.specs.Objects.{candidates, objects_of}
 use Rattle.ep_parts.specs.Actions.{schema_bindings}
 use Rattle.ep_parts.specs.PrintedNames.{object_name, action_name, schema_names, action_names}
-use Rattle.ep_parts.specs.Task.{GroundTask, IsRead, task_of}
+use Rattle.ep_parts.specs.Task.{GroundTask, IsRead}
+use Rattle.ep_ground.specs.Grounding.{task_of}
 use Rattle.ep_parts.proofs.CandidateLemmas.{few_params, HasFewParams}
 use Rattle.ep_parts.proofs.NameLemmas.{AreBelow, objects-declared, schema-below}
 use Rattle.ep_plan_text.specs.declared.print.Mark.{Mark as PlanMark}

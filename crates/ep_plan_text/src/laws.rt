@@ -4,7 +4,8 @@ ghost use Rattle.std.specs.Prelude.{◌≡◌, ◌≢◌, ℕ, ◌<◌, ◌≤�
 ghost use Rattle.ep_logic.specs.declared.ids.ActionId.{ActionId};
 ghost use Rattle.ep_syntax.specs.declared.tree.TaskTree.{TaskTree};
 ghost use Rattle.ep_types.specs.Tasks.{HasNoFault};
-ghost use Rattle.ep_parts.specs.Task.{GroundTask, IsRead, task_of};
+ghost use Rattle.ep_parts.specs.Task.{GroundTask, IsRead};
+ghost use Rattle.ep_ground.specs.Grounding.{task_of};
 ghost use Rattle.ep_plan_text.specs.PlanFiles.{IsFault, IsPlan};
 ghost use Rattle.ep_plan_text.specs.PlanText.{plan_text};
 ghost use Rattle.ep_plan_text.specs.declared.print.Mark.{Mark};

@@ -5,7 +5,7 @@ pub mod laws;
 mod print;
 mod read;
 
-pub use print::{Mark, print_plan};
+pub use print::{Mark, print_actions, print_plan};
 pub use read::{PlanError, read_plan};
 
 #[cfg(test)]

@@ -115,3 +115,13 @@ pub fn print_plan(alloc: Global, task: &Task, plan: &Plan, mark: Mark) -> Result
     text.line("end", &[])?;
     Ok(text.finish())
 }
+
+/// The printed names of the actions of a plan, a line each. Each action is the task's.
+pub fn print_actions(alloc: Global, task: &Task, plan: &Plan) -> Result<Text, OutOfMemory>
+    requires { All (λ a. a.n < length task.now.actions) plan.now }
+    ensures { IfOk result (λ text. text ≡ lines (map (spec.action_name task.now) plan.now)) }
+{
+    let mut text = LineText::new(alloc);
+    action_lines(&mut text, task, plan)?;
+    Ok(text.finish())
+}

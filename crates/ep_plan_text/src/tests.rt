@@ -21,7 +21,8 @@ fn coin(rt: &impl Abort, alloc: Global) -> Result<Task, Fail> {
     assert!(rt; bytes.len() <= 1_048_576);
     let found = tokens(alloc, bytes)?;
     let _count = found.count();
-    let typed = check(alloc, read_task(alloc, bytes, &found)?)?;
+    let tree = read_task(alloc, bytes, &found)?;
+    let typed = check(alloc, tree)?;
     let InitTree::Explicit { .. } = &typed.tree().init else {
         return Err("not explicit".into());
     };
@@ -126,7 +127,8 @@ fn printed_plans(rt: HostRuntime) -> Result<(), Fail> {
     let mut plan = List::new(rt.alloc());
     plan.push(ActionId { n: 2 })?;
     plan.push(ActionId { n: 0 })?;
-    assert!(rt; plan.as_slice().iter().all(|a| a.n < task.actions()));
+    let known = task.actions();
+    assert!(rt; plan.as_slice().iter().all(|a| a.n < known));
     for (mark, want) in rows {
         let text = print_plan(rt.alloc(), &task, &plan, mark)?;
         assert_eq!(rt; text.as_slice(), want.as_bytes());

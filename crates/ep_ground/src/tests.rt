@@ -1,6 +1,6 @@
 use crate::{GroundError, Task, ground, ground_formula, print_state};
 use ep_lex::tokens;
-use ep_logic::{ActionId, AgentId, AtomId, Formula, Node};
+use ep_logic::{ActionId, AgentId, AtomId, Formula, Node, Text};
 use ep_syntax::{read_formula, read_task};
 use ep_types::{TypeFault, check};
 use ep_universe::FormulaFault;
@@ -30,9 +30,6 @@ const LETTER: &str = "task letter; objects { ann, bob, cat : agent; } fluents { 
     vary { pass } law true; sees { ann } { pass } designated pass; } \
     action whisper(a : agent, b : agent) distinct { private knows a pass to { a, b }; } \
     goal (knows bob pass and not knows cat pass and knows ann knows bob pass);";
-
-const RAIN: &str = "task rain; objects { ann : agent; } fluents { wet; cold; } init { \
-    vary { wet } facts { cold } law true; designated true; } goal true;";
 
 const MANY: &str =
     "task many; objects { ann : agent; a, b, c, d, e, f, g, h, i, j, k, l : object; } \
@@ -103,38 +100,32 @@ fn refusals(rt: HostRuntime) -> Result<(), Fail> {
     Ok(())
 }
 
-fn has_text(rt: &impl Abort, alloc: Global, text: &str, want: &str) -> Result<(), Fail> {
-    let task = task(rt, alloc, text)??;
+// The text of the initial state of a task.
+fn initial_text(rt: &impl Abort, alloc: Global, task: &Task) -> Result<Text, Fail> {
     let state = task.initial();
-    assert!(rt; state.agents() == task.agents() && state.atoms() == task.atoms());
-    let printed = print_state(alloc, &task, state)?;
-    assert_eq!(rt; printed.as_slice(), want.as_bytes());
+    assert!(rt; state.agents() == task.agents());
+    assert!(rt; state.atoms() == task.atoms());
+    Ok(print_state(alloc, task, state)?)
+}
+
+#[test]
+fn text_of_an_explicit_state(rt: HostRuntime) -> Result<(), Fail> {
+    let task = task(&rt, rt.alloc(), COIN)??;
+    let text = initial_text(&rt, rt.alloc(), &task)?;
+    let want = "worlds 2\natom heads\nworld 0 1 designated\nworld 1 0\n\
+        links ann 0: 0 1\nlinks ann 1: 0 1\nlinks bob 0: 0 1\nlinks bob 1: 0 1\n";
+    assert_eq!(rt; text.as_slice(), want.as_bytes());
     Ok(())
 }
 
 #[test]
-fn initial_states(rt: HostRuntime) -> Result<(), Fail> {
-    let rows = [
-        (
-            COIN,
-            "worlds 2\natom heads\nworld 0 1 designated\nworld 1 0\n\
-             links ann 0: 0 1\nlinks ann 1: 0 1\nlinks bob 0: 0 1\nlinks bob 1: 0 1\n",
-        ),
-        (
-            LETTER,
-            "worlds 2\natom pass\nworld 0 0\nworld 1 1 designated\n\
-             links ann 0: 0\nlinks ann 1: 1\nlinks bob 0: 0 1\nlinks bob 1: 0 1\n\
-             links cat 0: 0 1\nlinks cat 1: 0 1\n",
-        ),
-        (
-            RAIN,
-            "worlds 2\natom wet\natom cold\nworld 0 01 designated\nworld 1 11 designated\n\
-             links ann 0: 0 1\nlinks ann 1: 0 1\n",
-        ),
-    ];
-    for (text, want) in rows {
-        has_text(&rt, rt.alloc(), text, want)?;
-    }
+fn text_of_a_lawful_state(rt: HostRuntime) -> Result<(), Fail> {
+    let task = task(&rt, rt.alloc(), LETTER)??;
+    let text = initial_text(&rt, rt.alloc(), &task)?;
+    let want = "worlds 2\natom pass\nworld 0 0\nworld 1 1 designated\n\
+        links ann 0: 0\nlinks ann 1: 1\nlinks bob 0: 0 1\nlinks bob 1: 0 1\n\
+        links cat 0: 0 1\nlinks cat 1: 0 1\n";
+    assert_eq!(rt; text.as_slice(), want.as_bytes());
     Ok(())
 }
 

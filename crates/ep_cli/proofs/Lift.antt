@@ -1,44 +1,56 @@
 -- From the answer of a step to the answer of its command, and from there to the answer of the words.
-use Rattle.std.proofs.Common.{◌⊎◌, ◌≡◌, ℕ, List, [], IfSome, Option, Some, None, MatchOption, inl, inr, refl, sym, subst}
-use Rattle.ep_logic.specs.declared.formula.Node.{Node}
-use Rattle.ep_theory.specs.Kripke.{Kripke}
-use Rattle.ep_io.specs.Library.{LibraryState, FileMap}
+use Rattle.std.proofs.Common.{◌≡◌, ◌≢◌, ◌≤◌, ◌+◌, ◌-◌, ◌^◌, min, ℕ, List, length, IfSome, IfNone, IsSome, Option, Some, None, MatchOption, Bool, Result, inl, inr, refl, sym, subst, ◌∙◌, arith}
+use Rattle.std.proofs.lemmas.Result.{MatchResult-weaker}
+use Rattle.ep_io.specs.Counts.{FaultSince, RoseBeyond}
+use Rattle.ep_io.specs.Library.{LibraryState, FileMap, file_of}
 use Rattle.ep_syntax.specs.declared.tree.TaskTree.{TaskTree}
 use Rattle.ep_lex.specs.Tokens.{Lexed}
 use Rattle.ep_types.specs.Faults.{first_fault}
-use Rattle.ep_types.specs.Tasks.{task_uses}
+use Rattle.ep_types.specs.Tasks.{declarations, task_uses}
 use Rattle.ep_types.specs.declared.fault.TypeFault.{TypeFault}
+use Rattle.ep_parts.specs.Task.{GroundTask}
+use Rattle.ep_ground.specs.Grounding.{fault_of, task_of}
+use Rattle.ep_parts.specs.declared.fault.GroundError.{GroundError}
+use Rattle.ep_parts.specs.declared.fault.GroundError.TheVariants as fault
+use Rattle.ep_words.specs.Words.{IsCommand}
+use Rattle.ep_words.specs.declared.command.Bounds.{Bounds}
+use Rattle.ep_words.specs.declared.command.Command.{Command}
+use Rattle.ep_words.specs.declared.command.Command.TheVariants.{Plan, Check}
 use Rattle.ep_cli.specs.declared.answer.Answer.{Answer}
-use Rattle.ep_cli.specs.declared.answer.Answer.TheVariants.{Refused, Misused, NoneTo}
-use Rattle.ep_cli.specs.declared.answer.Cause.TheVariants.{NoSuchFile, StrayByte, TooManyTokens, Syntax, TooDeep, Mistyped, NotBuilt}
+use Rattle.ep_cli.specs.declared.answer.Answer.TheVariants.{Refused, Misused}
 use Rattle.ep_cli.specs.declared.answer.Stop.{Stop}
 use Rattle.ep_cli.specs.declared.answer.Stop.TheVariants.{Told, OutOfMemory}
-use Rattle.ep_cli.specs.declared.answer.Subject.{Subject}
-use Rattle.ep_cli.specs.declared.answer.Subject.TheVariants.{Words, Task}
+use Rattle.ep_cli.specs.declared.cause.Cause.{Cause}
+use Rattle.ep_cli.specs.declared.cause.Cause.TheVariants as cause
+use Rattle.ep_cli.specs.declared.cause.Subject.{Subject}
+use Rattle.ep_cli.specs.declared.cause.Subject.TheVariants.{Words, Task}
 use Rattle.ep_cli.specs.declared.status.Status.{Status}
-use Rattle.ep_cli.specs.declared.status.Status.TheVariants as done
-use Rattle.ep_cli.specs.Answer.{answer_status, answer_text, plan_text}
-use Rattle.ep_cli.specs.Built.{Command, PlanAtZero, IsCommand}
-use Rattle.ep_cli.specs.Plain.{IsPlainTask}
-use Rattle.ep_cli.specs.Planning.{IsMet}
-use Rattle.ep_cli.specs.Planning as plan
-use Rattle.ep_cli.specs.Run.{IsAnswerOf, CommandNames, IsCommandAnswer, IsAnswer}
-use Rattle.ep_cli.specs.Served.{Work, Outcome, Answers, Sized, TaskRead, Planned, answers, place_at}
-use Rattle.ep_cli.specs.Steps.{OnlyFile, IsFetched, IsTaskOf, StopsAtFetch, StopsBy, StopsCommand, nothing_behind}
+use Rattle.ep_cli.specs.Answer.{answer_status, answer_text}
+use Rattle.ep_cli.specs.Commands.{Checks, CommandWork, Guided, Names, Plans, Work, word_at}
+use Rattle.ep_cli.specs.Run.{GoesOn, IsAnswerOf, IsAnswer, NamesFile}
+use Rattle.ep_cli.specs.Served.{Outcome, Answers, StopsAt, Sized, Fetched, TaskRead, TaskFile, TellsCause, IsCauseOf, Grounded, answers, place_at}
+use Rattle.ep_cli.specs.Steps.{OnlyFile, IsFetched, IsTaskOf, IsTaskFile, StopsAtFetch, StopsAtTask, Serves, StopsBy, StopsWork, nothing_behind}
 use Rattle.ep_cli.proofs.Steps.{Fetched-weaker, TaskRead-weaker, TaskRead-behind}
-use Rattle.ep_cli.proofs.Told.{IsBehind, refusal_is_behind, answer_is_behind, unserved_is_behind}
+use Rattle.ep_cli.proofs.Told.{IsBehind, refusal_is_behind, usage_is_behind}
 
-some_map : {A : Type 0} {P Q : A → Type 0} (o : Option A) → ((x : A) → P x → Q x) → IfSome o P → IfSome o Q
+pub some_map : {A : Type 0} {P Q : A → Type 0} (o : Option A) → ((x : A) → P x → Q x) → IfSome o P → IfSome o Q
 some_map None f h = h
 some_map (Some x) f h = f x h
 
-pub IsAnswerOf-weaker : (work more : FileMap → Outcome → Type 0) (names others : Subject → List ℕ → Type 0)
+both_map : {A : Type 0} {P Q R : A → Type 0} (o : Option A) → ((x : A) → P x → Q x → R x) → IfSome o P → IfSome o Q → IfSome o R
+both_map None f h k = h
+both_map (Some x) f h k = f x h k
+
+-- ---- answers of more work
+
+-- what one work may end with the other may, over what the library holds
+pub IsAnswerOf-held : (work more : FileMap → Outcome → Type 0) (names others : Subject → List ℕ → Type 0)
     (old new : LibraryState) (status : Status) (text : List ℕ)
-    → ((files : FileMap) (o : Outcome) → work files o → more files o) → ((s : Subject) (name : List ℕ) → names s name → others s name)
+    → IfSome old.held (λ files. (o : Outcome) → work files o → more files o) → ((s : Subject) (name : List ℕ) → names s name → others s name)
     → IsAnswerOf work names old new status text → IsAnswerOf more others old new status text
-IsAnswerOf-weaker work more names others old new status text f g h = record {
+IsAnswerOf-held work more names others old new status text f g h = record {
   possible = h.possible;
-  served = λ n. some_map old.held (λ files w. f files _ w) (h.served n);
+  served = λ n. both_map old.held (λ files k w. k (Answers status text) w) f (h.served n);
   fault = λ e. let p = h.fault e in (
     p.0,
     p.1,
@@ -47,113 +59,205 @@ IsAnswerOf-weaker work more names others old new status text f g h = record {
       named = g p.0 p.1 p.2.named;
       blamed = p.2.blamed;
       told = p.2.told;
-      first = some_map old.held (λ files w. f files _ w) p.2.first;
+      first = both_map old.held (λ files k w. k (StopsAt p.0 p.1) w) f p.2.first;
     },
   );
   missing = h.missing;
   too_long = h.too_long;
 }
 
--- what the command may answer its words may answer
-pub IsAnswer-command : (words : List (List ℕ)) (command : Command) (old new : LibraryState) (status : Status) (text : List ℕ)
-    → IsCommand words command → IsCommandAnswer command old new status text → IsAnswer words old new status text
-IsAnswer-command words command old new status text are h =
-    IsAnswerOf-weaker _ _ _ _ old new status text (λ files o w. inr (inr (command, are, w))) (λ s name n. (command, are, n)) h
+all_held : {P : FileMap → Type 0} (held : Option FileMap) → ((files : FileMap) → P files) → IfSome held P
+all_held None f = tt
+all_held (Some files) f = f files
 
--- what is told of words that are not served is their answer
-pub unserved_is_answer : (words : List (List ℕ)) (library : LibraryState) (answer : Answer) → (answer ≡ Misused) ⊎ (answer ≡ Refused Words NotBuilt)
-    → ((files : FileMap) → Work files words (answers answer)) → IsAnswer words library library (answer_status answer) (answer_text answer)
-unserved_is_answer words library answer is work =
-    let b = unserved_is_behind answer is in
-    record {
-      possible = b.written;
-      served = λ n. all_files library.held;
-      fault = λ e. absurd (b.no_fault e);
-      missing = λ s e. absurd (b.not_missing s e);
-      too_long = λ s e. absurd (b.not_long s e);
-    }
-  where
-    all_files : (held : Option FileMap) → IfSome held (λ files. Work files words (answers answer))
-    all_files None = tt
-    all_files (Some files) = work files
+pub StopsWork-more : (work more : FileMap → Outcome → Type 0) (names others : Subject → List ℕ → Type 0) (old new : LibraryState) (stop : Stop)
+    → ((files : FileMap) (o : Outcome) → work files o → more files o) → ((s : Subject) (name : List ℕ) → names s name → others s name)
+    → StopsWork work names old new stop → StopsWork more others old new stop
+StopsWork-more work more names others old new (Told answer) f g h =
+    IsAnswerOf-held work more names others old new (answer_status answer) (answer_text answer) (all_held old.held f) g h
+StopsWork-more work more names others old new OutOfMemory f g h = h
 
--- ---- at the fetch of the task
+-- what is told behind the fetches is the answer
+pub behind_is_answer : (work : FileMap → Outcome → Type 0) (names : Subject → List ℕ → Type 0) (old new : LibraryState) (status : Status) (text : List ℕ)
+    → IsBehind status text → IfSome old.held (λ files. work files (Answers status text)) → IsAnswerOf work names old new status text
+behind_is_answer work names old new status text b h = record {
+  possible = b.written;
+  served = λ n. h;
+  fault = λ e. absurd (b.no_fault e);
+  missing = λ s e. absurd (b.not_missing s e);
+  too_long = λ s e. absurd (b.not_long s e);
+}
 
-only_task : (file : List ℕ) (s : Subject) (name : List ℕ) → OnlyFile Task file s name → CommandNames (PlanAtZero file) s name
-only_task file Words name h = let e : Words ≡ Task = h.0 in cc
-only_task file Task name h = h.1
+-- ---- refusals of the reading of a task
 
-pub stops_at_fetch : (old new : LibraryState) (file : List ℕ) (stop : Stop) → StopsAtFetch old new Task file stop → StopsCommand (PlanAtZero file) old new stop
-stops_at_fetch old new file (Told answer) h =
-    IsAnswerOf-weaker _ _ _ _ old new (answer_status answer) (answer_text answer)
-    (λ files o w. Fetched-weaker files Task file nothing_behind (λ bytes. TaskRead bytes Planned) o (λ bytes none. absurd none) w)
-    (only_task file) h
-stops_at_fetch old new file OutOfMemory h = h
+cause_is_behind : (found : Lexed) (e : GroundError) (status : Status) (text : List ℕ) → TellsCause found e (Answers status text) → IsBehind status text
+cause_is_behind found (fault.TooManyObjects n) status text h = refusal_is_behind status text Task (cause.TooManyObjects n) tt (subst (λ c. Answers status text ≡ answers (Refused Task c)) h.1 h.2)
+cause_is_behind found fault.NoAgent status text h = refusal_is_behind status text Task cause.NoAgent tt (subst (λ c. Answers status text ≡ answers (Refused Task c)) h.1 h.2)
+cause_is_behind found (fault.TooManyAgents n) status text h = refusal_is_behind status text Task (cause.TooManyAgents n) tt (subst (λ c. Answers status text ≡ answers (Refused Task c)) h.1 h.2)
+cause_is_behind found (fault.TooManyAtoms n) status text h = refusal_is_behind status text Task (cause.TooManyAtoms n) tt (subst (λ c. Answers status text ≡ answers (Refused Task c)) h.1 h.2)
+cause_is_behind found (fault.TooManyActions n) status text h = refusal_is_behind status text Task (cause.TooManyActions n) tt (subst (λ c. Answers status text ≡ answers (Refused Task c)) h.1 h.2)
+cause_is_behind found (fault.TooManyEvents s n) status text h = refusal_is_behind status text Task (cause.TooManyEvents n) tt (subst (λ c. Answers status text ≡ answers (Refused Task c)) h.1 h.2)
+cause_is_behind found (fault.TooLargeFormula t) status text h = refusal_is_behind status text Task (cause.TooLarge (place_at found t)) tt (subst (λ c. Answers status text ≡ answers (Refused Task c)) h.1 h.2)
+cause_is_behind found (fault.TooLargeTask n) status text h = refusal_is_behind status text Task (cause.TooLargeTask n) tt (subst (λ c. Answers status text ≡ answers (Refused Task c)) h.1 h.2)
+cause_is_behind found (fault.AtomTwice name) status text h = refusal_is_behind status text Task (cause.AtomTwice name) tt (subst (λ c. Answers status text ≡ answers (Refused Task c)) h.1 h.2)
+cause_is_behind found (fault.TooManyVaried n) status text h = refusal_is_behind status text Task (cause.TooManyVaried n) tt (subst (λ c. Answers status text ≡ answers (Refused Task c)) h.1 h.2)
+cause_is_behind found (fault.TooManyWorlds n) status text h = refusal_is_behind status text Task (cause.TooManyWorlds n) tt (subst (λ c. Answers status text ≡ answers (Refused Task c)) h.1 h.2)
+cause_is_behind found fault.NoDesignated status text h = refusal_is_behind status text Task cause.NoDesignated tt (subst (λ c. Answers status text ≡ answers (Refused Task c)) h.1 h.2)
+cause_is_behind found fault.OutOfMemory status text h = absurd h.1
 
--- ---- behind the fetch of the task
+sound_option : (found : Lexed) (tree : TaskTree) (P : GroundTask → Outcome → Type 0) (status : Status) (text : List ℕ) (first : Option GroundError)
+    → ((g : GroundTask) → P g (Answers status text) → IsBehind status text)
+    → MatchOption first (P (task_of tree) (Answers status text)) (λ e. TellsCause found e (Answers status text)) → IsBehind status text
+sound_option found tree P status text None f h = f (task_of tree) h
+sound_option found tree P status text (Some e) f h = cause_is_behind found e status text h
 
-read_option : (bytes : List ℕ) (found : Lexed) (tree : TaskTree) (P : TaskTree → Outcome → Type 0) (status : Status) (text : List ℕ) (first : Option (TypeFault × ℕ))
-    → (P tree (Answers status text) → IsBehind status text)
-    → MatchOption first (P tree (Answers status text)) (λ fault. Answers status text ≡ answers (Refused Task (Mistyped fault.0 (place_at found fault.1))))
+ground_is_behind : (found : Lexed) (tree : TaskTree) (P : GroundTask → Outcome → Type 0) (status : Status) (text : List ℕ)
+    → ((g : GroundTask) → P g (Answers status text) → IsBehind status text) → Grounded found tree P (Answers status text) → IsBehind status text
+ground_is_behind found tree P status text f h = sound_option found tree P status text (fault_of (declarations tree) tree) f h
+
+read_option : (found : Lexed) (tree : TaskTree) (P : GroundTask → Outcome → Type 0) (status : Status) (text : List ℕ) (first : Option (TypeFault × ℕ))
+    → ((g : GroundTask) → P g (Answers status text) → IsBehind status text)
+    → MatchOption first (Grounded found tree P (Answers status text)) (λ fault. Answers status text ≡ answers (Refused Task (cause.Mistyped fault.0 (place_at found fault.1))))
     → IsBehind status text
-read_option bytes found tree P status text None f h = f h
-read_option bytes found tree P status text (Some fault) f h = refusal_is_behind status text (Mistyped fault.0 (place_at found fault.1)) tt h
+read_option found tree P status text None f h = ground_is_behind found tree P status text f h
+read_option found tree P status text (Some fault) f h = refusal_is_behind status text Task (cause.Mistyped fault.0 (place_at found fault.1)) tt h
 
-pub read_is_behind : (bytes : List ℕ) (P : TaskTree → Outcome → Type 0) (status : Status) (text : List ℕ)
-    → ((tree : TaskTree) → P tree (Answers status text) → IsBehind status text)
+pub read_is_behind : (bytes : List ℕ) (P : GroundTask → Outcome → Type 0) (status : Status) (text : List ℕ)
+    → ((g : GroundTask) → P g (Answers status text) → IsBehind status text)
     → TaskRead bytes P (Answers status text) → IsBehind status text
 unfolding TaskRead
-read_is_behind bytes P status text f (inl stray) = refusal_is_behind status text (StrayByte stray.0) tt stray.2
-read_is_behind bytes P status text f (inr (inl many)) = refusal_is_behind status text TooManyTokens tt many.1
-read_is_behind bytes P status text f (inr (inr (found, lexed, inl syntax))) = refusal_is_behind status text (Syntax (place_at found syntax.0)) tt syntax.2
-read_is_behind bytes P status text f (inr (inr (found, lexed, inr (inl deep)))) = refusal_is_behind status text (TooDeep (place_at found deep.0)) tt deep.2
-read_is_behind bytes P status text f (inr (inr (found, lexed, inr (inr (tree, reads, h))))) = read_option bytes found tree P status text (first_fault (task_uses tree)) (f tree) h
+read_is_behind bytes P status text f (inl stray) = refusal_is_behind status text Task (cause.StrayByte stray.0) tt stray.2
+read_is_behind bytes P status text f (inr (inl many)) = refusal_is_behind status text Task cause.TooManyTokens tt many.1
+read_is_behind bytes P status text f (inr (inr (found, lexed, inl syntax))) = refusal_is_behind status text Task (cause.Syntax (place_at found syntax.0)) tt syntax.2
+read_is_behind bytes P status text f (inr (inr (found, lexed, inr (inl deep)))) = refusal_is_behind status text Task (cause.TooDeep (place_at found deep.0)) tt deep.2
+read_is_behind bytes P status text f (inr (inr (found, lexed, inr (inr (tree, reads, h))))) = read_option found tree P status text (first_fault (task_uses tree)) f h
 
-pub answer_behind : (old new : LibraryState) (file bytes : List ℕ) (status : Status) (text : List ℕ)
-    → IsFetched old file bytes → TaskRead bytes Planned (Answers status text) → IsBehind status text
-    → IsCommandAnswer (PlanAtZero file) old new status text
-answer_behind old new file bytes status text fetched read b =
-    let M : Option (List ℕ) → Type 0 = λ f. MatchOption f (Answers status text ≡ answers (Refused Task NoSuchFile)) (λ b. Sized Task b (λ c. TaskRead c Planned) (Answers status text)) in
-    record {
-      possible = b.written;
-      served = λ n. some_map old.held (λ files is. inr (subst M (sym is) (inr (fetched.0, read)))) fetched.1;
-      fault = λ e. absurd (b.no_fault e);
-      missing = λ s e. absurd (b.not_missing s e);
-      too_long = λ s e. absurd (b.not_long s e);
-    }
+-- ---- the ground task of a file
+
+-- the file's bytes are these, and what is read of them is what is read of the file
+file_read : (held : Option FileMap) (s : Subject) (name bytes : List ℕ) (next : List ℕ → Outcome → Type 0) (o : Outcome)
+    → (length bytes ≤ 1048576) × IfSome held (λ files. file_of files name ≡ Some bytes) → next bytes o → IfSome held (λ files. Fetched files s name next o)
+file_read held s name bytes next o fetched h =
+    let M : Option (List ℕ) → Type 0 = λ f. MatchOption f (o ≡ answers (Refused s cause.NoSuchFile)) (λ b. Sized s b next o) in
+    some_map held (λ files is. inr (subst M (sym is) (inr (fetched.0, h)))) fetched.1
+
+pub stops_at_fetch : (old new : LibraryState) (file : List ℕ) (stop : Stop) → StopsAtFetch old new Task file stop → StopsAtTask old new file stop
+stops_at_fetch old new file stop h =
+    StopsWork-more (λ files. Fetched files Task file nothing_behind) (λ files. TaskFile files file nothing_behind) (OnlyFile Task file) (OnlyFile Task file) old new stop
+    (λ files o w. Fetched-weaker files Task file nothing_behind (λ bytes. TaskRead bytes nothing_behind) o (λ bytes none. absurd none) w)
+    (λ s name n. n) h
 
 pub stops_at_read : (old new : LibraryState) (file bytes : List ℕ) (stop : Stop)
-    → IsFetched old file bytes → StopsBy (TaskRead bytes nothing_behind) stop → StopsCommand (PlanAtZero file) old new stop
+    → IsFetched old file bytes → StopsBy (TaskRead bytes nothing_behind) stop → StopsAtTask old new file stop
 stops_at_read old new file bytes (Told answer) fetched h =
-    answer_behind old new file bytes (answer_status answer) (answer_text answer) fetched
-    (TaskRead-weaker bytes nothing_behind Planned (answers answer) (λ tree none. absurd none) h)
-    (read_is_behind bytes nothing_behind (answer_status answer) (answer_text answer) (λ tree none. absurd none) h)
+    behind_is_answer (λ files. TaskFile files file nothing_behind) (OnlyFile Task file) old new (answer_status answer) (answer_text answer)
+    (read_is_behind bytes nothing_behind (answer_status answer) (answer_text answer) (λ g none. absurd none) h)
+    (file_read old.held Task file bytes (λ bytes. TaskRead bytes nothing_behind) (answers answer) fetched h)
 stops_at_read old new file bytes OutOfMemory fetched h = h
 
-planned_is_behind : (tree : TaskTree) (status : Status) (text : List ℕ) → Planned tree (Answers status text) → IsBehind status text
-unfolding Planned
-planned_is_behind tree status text (inl p) = refusal_is_behind status text NotBuilt tt p.1
-planned_is_behind tree status text (inr p) = answer_is_behind status text tree.name.text p.2 p.5
+-- the work behind the ground task of the file
+pub task_then : (library : LibraryState) (file : List ℕ) (g : GroundTask) (work : FileMap → Outcome → Type 0) (P : FileMap → GroundTask → Outcome → Type 0)
+    → IsTaskFile library file g → ((files : FileMap) (o : Outcome) → work files o → P files g o)
+    → IfSome library.held (λ files. (o : Outcome) → work files o → TaskFile files file (P files) o)
+task_then library file g work P t f =
+    let M : FileMap → Outcome → Option (List ℕ) → Type 0 = λ files o found. MatchOption found (o ≡ answers (Refused Task cause.NoSuchFile)) (λ b. Sized Task b (λ c. TaskRead c (P files)) o) in
+    some_map library.held (λ files is o w. inr (subst (M files o) (sym is) (inr (t.fetched.0, TaskRead-behind t.bytes g (P files) o t.is_task (f files o w))))) t.fetched.1
 
--- ---- the answer of planning
+-- a command that stops at its task
+pub stops_at_task : (old new : LibraryState) (file : List ℕ) (P : FileMap → GroundTask → Outcome → Type 0) (names : Subject → List ℕ → Type 0) (stop : Stop)
+    → ((s : Subject) (name : List ℕ) → OnlyFile Task file s name → names s name)
+    → StopsAtTask old new file stop → StopsWork (λ files. TaskFile files file (P files)) names old new stop
+stops_at_task old new file P names stop f h =
+    StopsWork-more (λ files. TaskFile files file nothing_behind) (λ files. TaskFile files file (P files)) (OnlyFile Task file) names old new stop
+    (λ files o w. Fetched-weaker files Task file (λ bytes. TaskRead bytes nothing_behind) (λ bytes. TaskRead bytes (P files)) o (λ bytes r. TaskRead-weaker bytes nothing_behind (P files) o (λ g none. absurd none) r) w)
+    f h
 
-pub planned_not_built : (tree : TaskTree) → ((S : Kripke) (goal : Node) → IsPlainTask tree S goal → ⊥) → Planned tree (answers (Refused Task NotBuilt))
-unfolding Planned
-planned_not_built tree h = inl (h, refl)
+-- a command that ends with an answer for its task
+pub ends_with : (old new : LibraryState) (file : List ℕ) (g : GroundTask) (P : GroundTask → Outcome → Type 0) (names : Subject → List ℕ → Type 0) (answer : Answer)
+    → IsTaskFile old file g → P g (answers answer) → IsBehind (answer_status answer) (answer_text answer)
+    → IsAnswerOf (λ files. TaskFile files file P) names old new (answer_status answer) (answer_text answer)
+ends_with old new file g P names answer t h b =
+    behind_is_answer (λ files. TaskFile files file P) names old new (answer_status answer) (answer_text answer) b
+    (some_map old.held (λ files k. k (answers answer) h) (task_then old file g (λ files o. P g o) (λ files. P) t (λ files o w. w)))
 
-pub planned_none : (tree : TaskTree) (S : Kripke) (goal : Node) → IsPlainTask tree S goal → (IsMet S goal → ⊥) → Planned tree (answers (NoneTo 0))
-unfolding Planned
-planned_none tree S goal is unmet = inr (S, goal, plan.NoneTo 0, is, (refl, unmet), refl)
+-- ---- work behind other work on the library
 
-pub planned_shortest : (tree : TaskTree) (S : Kripke) (goal : Node) (name : List ℕ) (actions : List (List ℕ)) → IsPlainTask tree S goal → IsMet S goal
-    → name ≡ tree.name.text → actions ≡ [] → Planned tree (Answers done.Ok (plan_text name actions))
-unfolding Planned
-planned_shortest tree S goal name actions is met e none =
-    inr (S, goal, plan.Shortest [], is, (refl, met), λ i. Answers done.Ok (plan_text (e i) (none i)))
+less_min : (a b : ℕ) (c : ℕ) → a ≤ b → min a c ≤ min b c
+less_min a b c h = grind arith
 
-pub ends_planned : (old new : LibraryState) (file bytes : List ℕ) (tree : TaskTree) (answer : Answer)
-    → IsFetched old file bytes → IsTaskOf bytes tree → Planned tree (answers answer)
-    → IsCommandAnswer (PlanAtZero file) old new (answer_status answer) (answer_text answer)
-ends_planned old new file bytes tree answer fetched is planned =
-    answer_behind old new file bytes (answer_status answer) (answer_text answer) fetched
-    (TaskRead-behind bytes tree Planned (answers answer) is planned) (planned_is_behind tree (answer_status answer) (answer_text answer) planned)
+-- what the library did before is part of it
+pub later : (work : FileMap → Outcome → Type 0) (names : Subject → List ℕ → Type 0) (old mid new : LibraryState) (status : Status) (text : List ℕ)
+    → GoesOn old mid → IsAnswerOf work names mid new status text → IsAnswerOf work names old new status text
+later work names old mid new status text on h = record {
+  possible = h.possible;
+  served = λ n. subst (λ held. IfSome held (λ files. work files (Answers status text))) on.held (h.served n);
+  fault = λ e. let p = h.fault e in (
+    p.0,
+    p.1,
+    record {
+      since = since_before old.faults mid.faults new.faults on.faults p.2.since;
+      named = p.2.named;
+      blamed = p.2.blamed;
+      told = p.2.told;
+      first = subst (λ held. IfSome held (λ files. work files (StopsAt p.0 p.1))) on.held p.2.first;
+    },
+  );
+  missing = λ s e. subst IsSome on.held (h.missing s e);
+  too_long = λ s e. taken_before old.held mid.held on.held (h.too_long s e);
+}
+  where
+    since_before : (a b c : ℕ) → a ≤ b → FaultSince b c → FaultSince a c
+    since_before a b c l h = let m = less_min (a + 1) (b + 1) (2 ^ 64 - 1) (omega (arith, l)) in omega (arith, m, h)
+
+    taken_before : (one other : Option FileMap) → other ≡ one → IfNone other (RoseBeyond 1048576 mid.taken new.taken) → IfNone one (RoseBeyond 1048576 old.taken new.taken)
+    taken_before None None e k = let m = less_min (old.taken + (1048576 + 1)) (mid.taken + (1048576 + 1)) (2 ^ 64 - 1) (omega (arith, on.taken)) in omega (arith, m, k)
+    taken_before (Some f) other e k = tt
+    taken_before None (Some f) e k = cc
+
+-- ---- commands
+
+pub Serves-more : (work more : FileMap → Outcome → Type 0) (names others : Subject → List ℕ → Type 0) (old new : LibraryState) (r : Result Answer Stop)
+    → ((files : FileMap) (o : Outcome) → work files o → more files o) → ((s : Subject) (name : List ℕ) → names s name → others s name)
+    → Serves work names old new r → Serves more others old new r
+Serves-more work more names others old new r f g h =
+    MatchResult-weaker r h
+    (λ answer k. IsAnswerOf-held work more names others old new (answer_status answer) (answer_text answer) (all_held old.held f) g k)
+    (λ stop k. StopsWork-more work more names others old new stop f g k)
+
+only_task : (words : List (List ℕ)) (file : List ℕ) → file ≡ word_at words 1 → (s : Subject) (name : List ℕ) → OnlyFile Task file s name → Names words Check s name
+only_task words file e Words name p = let no : Words ≡ Task = p.0 in cc
+only_task words file e Task name p = p.1 ∙ e
+
+plan_names : (words : List (List ℕ)) (b : Bounds) (guide : ℕ) (first : Bool) (s : Subject) (name : List ℕ) → Names words Check s name → Names words (Plan b guide first) s name
+plan_names words b guide first Words name n = n
+plan_names words b guide first Task name n = n
+
+pub serves_check : (words : List (List ℕ)) (guides : ℕ) (file : List ℕ) (old new : LibraryState) (r : Result Answer Stop) → file ≡ word_at words 1
+    → Serves (λ files. TaskFile files file Checks) (OnlyFile Task file) old new r
+    → Serves (λ files. CommandWork files words guides Check) (Names words Check) old new r
+serves_check words guides file old new r e h =
+    Serves-more (λ files. TaskFile files file Checks) (λ files. CommandWork files words guides Check) (OnlyFile Task file) (Names words Check) old new r
+    (λ files o w. subst (λ f. TaskFile files f Checks o) e w) (only_task words file e) h
+
+pub serves_plan : (words : List (List ℕ)) (guides : ℕ) (b : Bounds) (guide : ℕ) (first : Bool) (file : List ℕ) (old new : LibraryState) (r : Result Answer Stop) (k : Command) → k ≡ Plan b guide first → file ≡ word_at words 1
+    → Serves (λ files. Guided guides guide (TaskFile files file (Plans b first))) (OnlyFile Task file) old new r
+    → Serves (λ files. CommandWork files words guides k) (Names words k) old new r
+serves_plan words guides b guide first file old new r k is e h =
+    subst (λ (k : Command). Serves (λ files. CommandWork files words guides k) (Names words k) old new r) (sym is)
+    (Serves-more (λ files. Guided guides guide (TaskFile files file (Plans b first))) (λ files. CommandWork files words guides (Plan b guide first)) (OnlyFile Task file) (Names words (Plan b guide first)) old new r
+    (λ files o w. subst (λ f. Guided guides guide (TaskFile files f (Plans b first)) o) e w) (λ s name p. plan_names words b guide first s name (only_task words file e s name p)) h)
+
+-- ---- the words
+
+-- what the command may answer its words may answer
+pub IsAnswer-command : (words : List (List ℕ)) (guides : ℕ) (command : Command) (old new : LibraryState) (status : Status) (text : List ℕ)
+    → IsCommand words command → IsAnswerOf (λ files. CommandWork files words guides command) (Names words command) old new status text → IsAnswer words guides old new status text
+IsAnswer-command words guides command old new status text are h =
+    IsAnswerOf-held (λ files. CommandWork files words guides command) (λ files. Work files words guides) (Names words command) (NamesFile words) old new status text
+    (all_held old.held (λ files o w. inr (command, are, w))) (λ s name n. (command, are, n)) h
+
+pub misused_is_answer : (words : List (List ℕ)) (guides : ℕ) (library : LibraryState) → ((command : Command) → IsCommand words command → ⊥)
+    → IsAnswer words guides library library (answer_status Misused) (answer_text Misused)
+misused_is_answer words guides library none =
+    behind_is_answer (λ files. Work files words guides) (NamesFile words) library library (answer_status Misused) (answer_text Misused) usage_is_behind
+    (all_held library.held (λ files. inl (none, refl)))

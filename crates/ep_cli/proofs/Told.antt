@@ -1,26 +1,30 @@
 -- What is told behind a fetch is not what a fetch tells.
-use Rattle.std.proofs.Common.{◌⊎◌, inl, inr, sym, subst, ◌≡◌, ◌≢◌, ℕ, List, [], ◌∷◌, ◌++◌, false, true, drop, get_or, eqb, refl, ap, arith, rules}
+use Rattle.std.proofs.Common.{sym, subst, ◌∙◌, append_assoc, codes, ◌≡◌, ◌≢◌, ℕ, List, [], ◌∷◌, ◌++◌, Bool, false, true, not, ◌==◌, drop, get_or, eqb, refl, ap, arith, rules}
+use Rattle.std.specs.Bool.{⊤}
+use Rattle.std.specs.List.{list_all}
+use Rattle.ep_search.specs.declared.answer.Answer.{Answer as Found}
+use Rattle.ep_search.specs.declared.answer.Answer.TheVariants as found
 use Rattle.ep_types.specs.declared.fault.TypeFault.TheVariants as type_fault
+use Rattle.ep_parts.specs.Task.{GroundTask}
 use Rattle.ep_cli.specs.declared.answer.Answer.{Answer}
-use Rattle.ep_cli.specs.declared.answer.Answer.TheVariants.{Refused, Misused}
-use Rattle.ep_cli.specs.declared.answer.Cause.{Cause}
-use Rattle.ep_cli.specs.declared.answer.Cause.TheVariants.{NoSuchFile, TooLong, StrayByte, TooManyTokens, Syntax, TooDeep, Mistyped, NotBuilt}
-use Rattle.ep_cli.specs.declared.answer.Subject.{Subject}
-use Rattle.ep_cli.specs.declared.answer.Subject.TheVariants.{Words, Task}
+use Rattle.ep_cli.specs.declared.answer.Answer.TheVariants.{Refused, Misused, NoSuchGuide}
+use Rattle.ep_cli.specs.declared.cause.Cause.{Cause}
+use Rattle.ep_cli.specs.declared.cause.Cause.TheVariants as cause
+use Rattle.ep_cli.specs.declared.cause.Subject.{Subject}
+use Rattle.ep_cli.specs.declared.cause.Subject.TheVariants.{Words, Task}
 use Rattle.ep_cli.specs.declared.status.Status.{Status}
-use Rattle.ep_cli.specs.declared.status.Status.TheVariants.{ReadFault}
 use Rattle.ep_cli.specs.declared.status.Status.TheVariants as done
-use Rattle.ep_cli.specs.Answer.{answer_text, answer_status, cause_text, plan_text, none_text}
-use Rattle.ep_cli.specs.Planning.{PlanAnswer, Shortest, NoneTo}
-use Rattle.ep_cli.specs.Served.{Answers, answers, told}
+use Rattle.ep_cli.specs.Answer.{answer_text, answer_status, subject_text, cause_text}
+use Rattle.ep_cli.specs.Commands.{Checks, told}
+use Rattle.ep_cli.specs.Served.{Answers, answers}
 use Rattle.ep_cli.specs.Status.{IsWritten}
 
 -- a status and a text that no fetch gives
 pub record IsBehind (status : Status) (text : List ℕ) : Type 0 where
   pub written : IsWritten status
-  pub no_fault : status ≢ ReadFault
-  pub not_missing : (s : Subject) → text ≡ answer_text (Refused s NoSuchFile) → ⊥
-  pub not_long : (s : Subject) → text ≡ answer_text (Refused s TooLong) → ⊥
+  pub no_fault : status ≢ done.ReadFault
+  pub not_missing : (s : Subject) → text ≡ answer_text (Refused s cause.NoSuchFile) → ⊥
+  pub not_long : (s : Subject) → text ≡ answer_text (Refused s cause.TooLong) → ⊥
 
 -- ---- texts that differ at a byte
 
@@ -30,122 +34,164 @@ same n = search rules
 pub differ : (n : ℕ) (a b : List ℕ) → eqb (get_or a n 0) (get_or b n 0) ≡ false → a ≡ b → ⊥
 differ n a b d e = let h : eqb (get_or a n 0) (get_or a n 0) ≡ false = (rw (← e) at d) in grind (arith, same, h)
 
+-- a text that begins with no `r` is no refusal
+pub no_refusal : (text : List ℕ) (s : Subject) (c : Cause) → eqb (get_or text 0 0) 114 ≡ false → text ≡ answer_text (Refused s c) → ⊥
+no_refusal text s c d e = differ 0 text (answer_text (Refused s c)) d e
+
 -- ---- causes that no fetch gives
 
 abbrev pub IsBehindFetch : Cause → Type 0
-IsBehindFetch NoSuchFile = ⊥
-IsBehindFetch TooLong = ⊥
-IsBehindFetch (StrayByte at) = Unit {0}
-IsBehindFetch TooManyTokens = Unit {0}
-IsBehindFetch (Syntax place) = Unit {0}
-IsBehindFetch (TooDeep place) = Unit {0}
-IsBehindFetch (Mistyped fault place) = Unit {0}
-IsBehindFetch NotBuilt = Unit {0}
+IsBehindFetch cause.NoSuchFile = ⊥
+IsBehindFetch cause.TooLong = ⊥
+IsBehindFetch (cause.StrayByte at) = ⊤
+IsBehindFetch cause.TooManyTokens = ⊤
+IsBehindFetch (cause.Syntax p) = ⊤
+IsBehindFetch (cause.TooDeep p) = ⊤
+IsBehindFetch (cause.Mistyped fault p) = ⊤
+IsBehindFetch (cause.TooManyObjects n) = ⊤
+IsBehindFetch cause.NoAgent = ⊤
+IsBehindFetch (cause.TooManyAgents n) = ⊤
+IsBehindFetch (cause.TooManyAtoms n) = ⊤
+IsBehindFetch (cause.TooManyActions n) = ⊤
+IsBehindFetch (cause.TooManyEvents n) = ⊤
+IsBehindFetch (cause.TooLarge p) = ⊤
+IsBehindFetch (cause.TooLargeTask n) = ⊤
+IsBehindFetch (cause.AtomTwice name) = ⊤
+IsBehindFetch (cause.TooManyVaried n) = ⊤
+IsBehindFetch (cause.TooManyWorlds n) = ⊤
+IsBehindFetch cause.NoDesignated = ⊤
+IsBehindFetch cause.NotBuilt = ⊤
 
 abbrev line : Cause → List ℕ
 line cause = cause_text cause ++ 10 ∷ []
 
-cause_not_missing : (c : Cause) → IsBehindFetch c → line c ≡ line NoSuchFile → ⊥
-cause_not_missing NoSuchFile b e = absurd b
-cause_not_missing TooLong b e = absurd b
-cause_not_missing (StrayByte at) b e = differ 0 _ _ refl e
-cause_not_missing TooManyTokens b e = differ 0 _ _ refl e
-cause_not_missing (Syntax p) b e = differ 0 _ _ refl e
-cause_not_missing (TooDeep p) b e = differ 0 _ _ refl e
-cause_not_missing (Mistyped type_fault.TooManyParameters p) b e = differ 0 _ _ refl e
-cause_not_missing (Mistyped type_fault.Duplicate p) b e = differ 0 _ _ refl e
-cause_not_missing (Mistyped type_fault.Unknown p) b e = differ 0 _ _ refl e
-cause_not_missing (Mistyped type_fault.WrongArity p) b e = differ 0 _ _ refl e
-cause_not_missing (Mistyped type_fault.WrongType p) b e = differ 0 _ _ refl e
-cause_not_missing (Mistyped type_fault.NotAgent p) b e = differ 2 _ _ refl e
-cause_not_missing (Mistyped type_fault.EmptyGroup p) b e = differ 0 _ _ refl e
-cause_not_missing (Mistyped type_fault.NotObjective p) b e = differ 0 _ _ refl e
-cause_not_missing NotBuilt b e = differ 2 _ _ refl e
+cause_not_missing : (c : Cause) → IsBehindFetch c → line c ≡ line cause.NoSuchFile → ⊥
+cause_not_missing cause.NoSuchFile b e = absurd b
+cause_not_missing cause.TooLong b e = absurd b
+cause_not_missing (cause.StrayByte at) b e = differ 0 _ _ refl e
+cause_not_missing cause.TooManyTokens b e = differ 0 _ _ refl e
+cause_not_missing (cause.Syntax p) b e = differ 0 _ _ refl e
+cause_not_missing (cause.TooDeep p) b e = differ 0 _ _ refl e
+cause_not_missing (cause.Mistyped type_fault.TooManyParameters p) b e = differ 0 _ _ refl e
+cause_not_missing (cause.Mistyped type_fault.Duplicate p) b e = differ 0 _ _ refl e
+cause_not_missing (cause.Mistyped type_fault.Unknown p) b e = differ 0 _ _ refl e
+cause_not_missing (cause.Mistyped type_fault.WrongArity p) b e = differ 0 _ _ refl e
+cause_not_missing (cause.Mistyped type_fault.WrongType p) b e = differ 0 _ _ refl e
+cause_not_missing (cause.Mistyped type_fault.NotAgent p) b e = differ 2 _ _ refl e
+cause_not_missing (cause.Mistyped type_fault.EmptyGroup p) b e = differ 0 _ _ refl e
+cause_not_missing (cause.Mistyped type_fault.NotObjective p) b e = differ 0 _ _ refl e
+cause_not_missing (cause.TooManyObjects n) b e = differ 0 _ _ refl e
+cause_not_missing cause.NoAgent b e = differ 3 _ _ refl e
+cause_not_missing (cause.TooManyAgents n) b e = differ 0 _ _ refl e
+cause_not_missing (cause.TooManyAtoms n) b e = differ 0 _ _ refl e
+cause_not_missing (cause.TooManyActions n) b e = differ 0 _ _ refl e
+cause_not_missing (cause.TooManyEvents n) b e = differ 0 _ _ refl e
+cause_not_missing (cause.TooLarge p) b e = differ 0 _ _ refl e
+cause_not_missing (cause.TooLargeTask n) b e = differ 0 _ _ refl e
+cause_not_missing (cause.AtomTwice name) b e = differ 0 _ _ refl e
+cause_not_missing (cause.TooManyVaried n) b e = differ 0 _ _ refl e
+cause_not_missing (cause.TooManyWorlds n) b e = differ 0 _ _ refl e
+cause_not_missing cause.NoDesignated b e = differ 3 _ _ refl e
+cause_not_missing cause.NotBuilt b e = differ 2 _ _ refl e
 
-cause_not_long : (c : Cause) → IsBehindFetch c → line c ≡ line TooLong → ⊥
-cause_not_long NoSuchFile b e = absurd b
-cause_not_long TooLong b e = absurd b
-cause_not_long (StrayByte at) b e = differ 0 _ _ refl e
-cause_not_long TooManyTokens b e = differ 4 _ _ refl e
-cause_not_long (Syntax p) b e = differ 0 _ _ refl e
-cause_not_long (TooDeep p) b e = differ 4 _ _ refl e
-cause_not_long (Mistyped type_fault.TooManyParameters p) b e = differ 4 _ _ refl e
-cause_not_long (Mistyped type_fault.Duplicate p) b e = differ 0 _ _ refl e
-cause_not_long (Mistyped type_fault.Unknown p) b e = differ 0 _ _ refl e
-cause_not_long (Mistyped type_fault.WrongArity p) b e = differ 0 _ _ refl e
-cause_not_long (Mistyped type_fault.WrongType p) b e = differ 0 _ _ refl e
-cause_not_long (Mistyped type_fault.NotAgent p) b e = differ 0 _ _ refl e
-cause_not_long (Mistyped type_fault.EmptyGroup p) b e = differ 0 _ _ refl e
-cause_not_long (Mistyped type_fault.NotObjective p) b e = differ 0 _ _ refl e
-cause_not_long NotBuilt b e = differ 0 _ _ refl e
+cause_not_long : (c : Cause) → IsBehindFetch c → line c ≡ line cause.TooLong → ⊥
+cause_not_long cause.NoSuchFile b e = absurd b
+cause_not_long cause.TooLong b e = absurd b
+cause_not_long (cause.StrayByte at) b e = differ 0 _ _ refl e
+cause_not_long cause.TooManyTokens b e = differ 4 _ _ refl e
+cause_not_long (cause.Syntax p) b e = differ 0 _ _ refl e
+cause_not_long (cause.TooDeep p) b e = differ 4 _ _ refl e
+cause_not_long (cause.Mistyped type_fault.TooManyParameters p) b e = differ 4 _ _ refl e
+cause_not_long (cause.Mistyped type_fault.Duplicate p) b e = differ 0 _ _ refl e
+cause_not_long (cause.Mistyped type_fault.Unknown p) b e = differ 0 _ _ refl e
+cause_not_long (cause.Mistyped type_fault.WrongArity p) b e = differ 0 _ _ refl e
+cause_not_long (cause.Mistyped type_fault.WrongType p) b e = differ 0 _ _ refl e
+cause_not_long (cause.Mistyped type_fault.NotAgent p) b e = differ 0 _ _ refl e
+cause_not_long (cause.Mistyped type_fault.EmptyGroup p) b e = differ 0 _ _ refl e
+cause_not_long (cause.Mistyped type_fault.NotObjective p) b e = differ 0 _ _ refl e
+cause_not_long (cause.TooManyObjects n) b e = differ 4 _ _ refl e
+cause_not_long cause.NoAgent b e = differ 0 _ _ refl e
+cause_not_long (cause.TooManyAgents n) b e = differ 4 _ _ refl e
+cause_not_long (cause.TooManyAtoms n) b e = differ 4 _ _ refl e
+cause_not_long (cause.TooManyActions n) b e = differ 4 _ _ refl e
+cause_not_long (cause.TooManyEvents n) b e = differ 4 _ _ refl e
+cause_not_long (cause.TooLarge p) b e = differ 0 _ _ refl e
+cause_not_long (cause.TooLargeTask n) b e = differ 1 _ _ refl e
+cause_not_long (cause.AtomTwice name) b e = differ 0 _ _ refl e
+cause_not_long (cause.TooManyVaried n) b e = differ 4 _ _ refl e
+cause_not_long (cause.TooManyWorlds n) b e = differ 4 _ _ refl e
+cause_not_long cause.NoDesignated b e = differ 0 _ _ refl e
+cause_not_long cause.NotBuilt b e = differ 0 _ _ refl e
 
--- ---- refusals of a task
+-- ---- refusals with the same text
 
-text_not_missing : (c : Cause) (s : Subject) → IsBehindFetch c → answer_text (Refused Task c) ≡ answer_text (Refused s NoSuchFile) → ⊥
-text_not_missing c Words b e = differ 9 _ _ refl e
-text_not_missing c Task b e = cause_not_missing c b (ap (drop 15) e)
+abbrev is_no_colon : ℕ → Bool
+is_no_colon c = not (c == 58)
 
-text_not_long : (c : Cause) (s : Subject) → IsBehindFetch c → answer_text (Refused Task c) ≡ answer_text (Refused s TooLong) → ⊥
-text_not_long c Words b e = differ 9 _ _ refl e
-text_not_long c Task b e = cause_not_long c b (ap (drop 15) e)
+-- what stands behind the first colon
+behind_colon : (a b x y : List ℕ) → list_all is_no_colon a ≡ true → list_all is_no_colon b ≡ true → a ++ 58 ∷ x ≡ b ++ 58 ∷ y → x ≡ y
+behind_colon [] [] x y p q e = ap (drop 1) e
+behind_colon [] (d ∷ b) x y p q e = let h : 58 ≡ d = ap (λ l. get_or l 0 0) e in absurd (grind (rules, q, h))
+behind_colon (c ∷ a) [] x y p q e = let h : c ≡ 58 = ap (λ l. get_or l 0 0) e in absurd (grind (rules, p, h))
+behind_colon (c ∷ a) (d ∷ b) x y p q e = behind_colon a b x y (grind (rules, p)) (grind (rules, q)) (ap (drop 1) e)
 
-task_refusal : (c : Cause) → IsBehindFetch c → IsBehind (answer_status (Refused Task c)) (answer_text (Refused Task c))
-task_refusal c b = record {
+no_colon : (s : Subject) → list_all is_no_colon (subject_text s) ≡ true
+no_colon Words = refl
+no_colon Task = refl
+
+behind_refused : (s : Subject) (c : Cause) → drop 9 (answer_text (Refused s c)) ≡ subject_text s ++ 58 ∷ 32 ∷ line c
+behind_refused s c = append_assoc (subject_text s ++ codes ": ") (cause_text c) (10 ∷ []) ∙ append_assoc (subject_text s) (codes ": ") (line c)
+
+same_cause : (s t : Subject) (c d : Cause) → answer_text (Refused s c) ≡ answer_text (Refused t d) → line c ≡ line d
+same_cause s t c d e =
+    ap (drop 1) (behind_colon (subject_text s) (subject_text t) (32 ∷ line c) (32 ∷ line d) (no_colon s) (no_colon t) (sym (behind_refused s c) ∙ ap (drop 9) e ∙ behind_refused t d))
+
+-- ---- answers that no fetch gives
+
+refusal : (s : Subject) (c : Cause) → IsBehindFetch c → IsBehind (answer_status (Refused s c)) (answer_text (Refused s c))
+refusal s c b = record {
   written = tt;
   no_fault = λ e. cc;
-  not_missing = λ s e. text_not_missing c s b e;
-  not_long = λ s e. text_not_long c s b e;
+  not_missing = λ t e. cause_not_missing c b (same_cause s t c cause.NoSuchFile e);
+  not_long = λ t e. cause_not_long c b (same_cause s t c cause.TooLong e);
 }
 
-pub refusal_is_behind : (status : Status) (text : List ℕ) (c : Cause) → IsBehindFetch c → Answers status text ≡ answers (Refused Task c) → IsBehind status text
-refusal_is_behind status text c b e =
-    let s : status ≡ answer_status (Refused Task c) = cc in
-    let t : text ≡ answer_text (Refused Task c) = cc in
-    rw (s, t) (task_refusal c b)
+pub refusal_is_behind : (status : Status) (text : List ℕ) (s : Subject) (c : Cause) → IsBehindFetch c → Answers status text ≡ answers (Refused s c) → IsBehind status text
+refusal_is_behind status text s c b e =
+    let p : status ≡ answer_status (Refused s c) = cc in
+    let t : text ≡ answer_text (Refused s c) = cc in
+    rw (p, t) (refusal s c b)
 
--- ---- answers of planning
-
-pub answer_is_behind : (status : Status) (text name : List ℕ) (answer : PlanAnswer) → Answers status text ≡ told name answer → IsBehind status text
-answer_is_behind status text name (Shortest plan) e =
-    let s : status ≡ done.Ok = cc in
-    let t : text ≡ plan_text name plan = cc in
-    rw (s, t) (record {
-      written = tt;
-      no_fault = λ f. cc;
-      not_missing = λ s f. differ 0 (plan_text name plan) (answer_text (Refused s NoSuchFile)) refl f;
-      not_long = λ s f. differ 0 (plan_text name plan) (answer_text (Refused s TooLong)) refl f;
-    })
-answer_is_behind status text name (NoneTo depth) e =
-    let s : status ≡ done.No = cc in
-    let t : text ≡ none_text depth = cc in
-    rw (s, t) (record {
-      written = tt;
-      no_fault = λ f. cc;
-      not_missing = λ s f. differ 0 (none_text depth) (answer_text (Refused s NoSuchFile)) refl f;
-      not_long = λ s f. differ 0 (none_text depth) (answer_text (Refused s TooLong)) refl f;
-    })
-
--- ---- words that are not served
-
-words_are_behind : IsBehind (answer_status (Refused Words NotBuilt)) (answer_text (Refused Words NotBuilt))
-words_are_behind = record { written = tt; no_fault = λ e. cc; not_missing = missing; not_long = long }
-  where
-    missing : (s : Subject) → answer_text (Refused Words NotBuilt) ≡ answer_text (Refused s NoSuchFile) → ⊥
-    missing Words e = differ 18 _ _ refl e
-    missing Task e = differ 9 _ _ refl e
-
-    long : (s : Subject) → answer_text (Refused Words NotBuilt) ≡ answer_text (Refused s TooLong) → ⊥
-    long Words e = differ 16 _ _ refl e
-    long Task e = differ 9 _ _ refl e
-
-usage_is_behind : IsBehind (answer_status Misused) (answer_text Misused)
-usage_is_behind = record {
-  written = tt;
-  no_fault = λ e. cc;
-  not_missing = λ s e. differ 0 (answer_text Misused) (answer_text (Refused s NoSuchFile)) refl e;
-  not_long = λ s e. differ 0 (answer_text Misused) (answer_text (Refused s TooLong)) refl e;
+-- a text that begins with no `r`
+pub other_is_behind : (status : Status) (text : List ℕ) → IsWritten status → status ≢ done.ReadFault → eqb (get_or text 0 0) 114 ≡ false → IsBehind status text
+other_is_behind status text w n d = record {
+  written = w;
+  no_fault = n;
+  not_missing = λ s e. no_refusal text s cause.NoSuchFile d e;
+  not_long = λ s e. no_refusal text s cause.TooLong d e;
 }
 
-pub unserved_is_behind : (answer : Answer) → (answer ≡ Misused) ⊎ (answer ≡ Refused Words NotBuilt) → IsBehind (answer_status answer) (answer_text answer)
-unserved_is_behind answer (inl e) = subst (λ a. IsBehind (answer_status a) (answer_text a)) (sym e) usage_is_behind
-unserved_is_behind answer (inr e) = subst (λ a. IsBehind (answer_status a) (answer_text a)) (sym e) words_are_behind
+answers_are : (status other : Status) (text told : List ℕ) → Answers status text ≡ Answers other told → IsBehind other told → IsBehind status text
+answers_are status other text told e b =
+    let p : status ≡ other = cc in
+    let t : text ≡ told = cc in
+    rw (p, t) b
+
+pub usage_is_behind : IsBehind (answer_status Misused) (answer_text Misused)
+usage_is_behind = other_is_behind (answer_status Misused) (answer_text Misused) tt (λ e. cc) refl
+
+pub no_guide_is_behind : IsBehind (answer_status NoSuchGuide) (answer_text NoSuchGuide)
+no_guide_is_behind = other_is_behind (answer_status NoSuchGuide) (answer_text NoSuchGuide) tt (λ e. cc) refl
+
+pub not_built_is_behind : IsBehind (answer_status (Refused Words cause.NotBuilt)) (answer_text (Refused Words cause.NotBuilt))
+not_built_is_behind = refusal Words cause.NotBuilt tt
+
+pub checks_is_behind : (g : GroundTask) (status : Status) (text : List ℕ) → Checks g (Answers status text) → IsBehind status text
+checks_is_behind g status text e = answers_are status done.Ok text _ e (other_is_behind done.Ok _ tt (λ e. cc) refl)
+
+pub told_is_behind : (g : GroundTask) (d : ℕ) (a : Found) (status : Status) (text : List ℕ) → Answers status text ≡ told g d a → IsBehind status text
+told_is_behind g d (found.Shortest p) status text e = answers_are status done.Ok text _ e (other_is_behind done.Ok _ tt (λ e. cc) refl)
+told_is_behind g d (found.Found p) status text e = answers_are status done.Ok text _ e (other_is_behind done.Ok _ tt (λ e. cc) refl)
+told_is_behind g d found.NoneTo status text e = answers_are status done.No text _ e (other_is_behind done.No _ tt (λ e. cc) refl)
+told_is_behind g d found.ManyStates status text e = answers_are status done.Undecided text _ e (other_is_behind done.Undecided _ tt (λ e. cc) refl)
+told_is_behind g d (found.Wide p) status text e = answers_are status done.Undecided text _ e (other_is_behind done.Undecided _ tt (λ e. cc) refl)

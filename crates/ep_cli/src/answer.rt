@@ -1,88 +1,31 @@
 // What is answered, as a status and a text.
-ghost use Rattle.std.specs.Prelude.{◌≡◌, Some, map, string_bytes};
-ghost use Rattle.ep_cli.specs.Answer.{subject_text, place_text, fault_text, cause_text, lines, answer_text, answer_status};
+ghost use Rattle.std.specs.Prelude.{◌≡◌, Some};
+ghost use Rattle.ep_cli.specs.Answer.{counts_text, answer_text, answer_status};
 
 use crate::Status;
-use ep_logic::OutOfMemory;
-use ep_types::TypeFault;
+use crate::cause::{Cause, Shown, Subject};
+use ep_logic::{OutOfMemory, Text};
 use std::fmt;
 
-/// What an answer speaks of.
+/// The numbers of a ground task, and of its initial worlds.
 #[derive(Clone, Copy, Debug, PartialEq, Eq)]
-pub enum Subject {
-    Words,
-    Task,
+pub struct Counts {
+    pub agents: u32,
+    pub objects: u32,
+    pub atoms: u32,
+    pub actions: u32,
+    pub worlds: u32,
 }
 
-impl fmt::Display for Subject {
-    ghost output = { λ s. Some (subject_text s) };
+impl fmt::Display for Counts {
+    ghost output = { λ c. Some (counts_text c) };
 
     fn fmt<W: fmt::Write>(&self, f: &mut fmt::Formatter<W>) -> fmt::Result {
-        f.write_str(match self {
-            Subject::Words => "words",
-            Subject::Task => "task",
-        })
-    }
-}
-
-/// A token of a text by its number, or the end where that is the number of tokens, with its line.
-#[derive(Clone, Copy, Debug, PartialEq, Eq)]
-pub struct Place {
-    pub token: u32,
-    pub line: u32,
-}
-
-impl fmt::Display for Place {
-    ghost output = { λ p. Some (place_text p) };
-
-    fn fmt<W: fmt::Write>(&self, f: &mut fmt::Formatter<W>) -> fmt::Result {
-        write!(f, "token {}, line {}", self.token, self.line)
-    }
-}
-
-/// Why a text is refused.
-#[derive(Clone, Copy, Debug, PartialEq, Eq)]
-pub enum Cause {
-    NoSuchFile,
-    TooLong,
-    /// `at` is the number of bytes before the stray one.
-    StrayByte { at: u32 },
-    TooManyTokens,
-    Syntax(Place),
-    TooDeep(Place),
-    Mistyped(TypeFault, Place),
-    NotBuilt,
-}
-
-impl fmt::Display for Cause {
-    ghost output = { λ c. Some (cause_text c) };
-
-    fn fmt<W: fmt::Write>(&self, f: &mut fmt::Formatter<W>) -> fmt::Result {
-        match self {
-            Cause::NoSuchFile => f.write_str("no such file"),
-            Cause::TooLong => f.write_str("too long"),
-            Cause::StrayByte { at } => write!(f, "stray byte at {at}"),
-            Cause::TooManyTokens => f.write_str("too many tokens"),
-            Cause::Syntax(place) => write!(f, "syntax at {place}"),
-            Cause::TooDeep(place) => write!(f, "too deep at {place}"),
-            Cause::Mistyped(fault, place) => write!(f, "{} at {place}", fault_words(*fault)),
-            Cause::NotBuilt => f.write_str("not built"),
-        }
-    }
-}
-
-fn fault_words(fault: TypeFault) -> &'static str
-    ensures { result.now ≡ fault_text fault }
-{
-    match fault {
-        TypeFault::TooManyParameters => "too many parameters",
-        TypeFault::Duplicate => "duplicate name",
-        TypeFault::Unknown => "unknown name",
-        TypeFault::WrongArity => "wrong number of arguments",
-        TypeFault::WrongType => "wrong type",
-        TypeFault::NotAgent => "not an agent",
-        TypeFault::EmptyGroup => "empty group",
-        TypeFault::NotObjective => "knowledge not allowed",
+        write!(
+            f,
+            "# agents {} objects {} atoms {} actions {} worlds {}",
+            self.agents, self.objects, self.atoms, self.actions, self.worlds
+        )
     }
 }
 
@@ -92,12 +35,20 @@ pub enum Answer {
     Refused(Subject, Cause),
     /// The words are those of no command.
     Misused,
+    /// No guide stands at the place that the words ask for.
+    NoSuchGuide,
     /// The library failed on this file.
     Unreadable(Subject),
-    /// A plan for the task with this name, by the printed names of its actions, and none is shorter.
-    Shortest { task: String, actions: Vec<String> },
+    /// The numbers of a task, and its layout.
+    Checked { counts: Counts, layout: Text },
+    /// A text that is made already, of a plan or of a state.
+    Printed(Text),
     /// No plan has at most so many actions.
     NoneTo { depth: u32 },
+    /// More states than may be stored lie within the depth.
+    ManyStates,
+    /// So many actions, of which these are the lines, leave a state whose contraction has too many worlds.
+    WideAfter { count: usize, actions: Text },
 }
 
 impl Answer {
@@ -106,10 +57,11 @@ impl Answer {
     {
         match self {
             Answer::Refused(..) => Status::Refused,
-            Answer::Misused => Status::Usage,
+            Answer::Misused | Answer::NoSuchGuide => Status::Usage,
             Answer::Unreadable(_) => Status::ReadFault,
-            Answer::Shortest { .. } => Status::Ok,
+            Answer::Checked { .. } | Answer::Printed(_) => Status::Ok,
             Answer::NoneTo { .. } => Status::No,
+            Answer::ManyStates | Answer::WideAfter { .. } => Status::Undecided,
         }
     }
 }
@@ -123,30 +75,18 @@ impl fmt::Display for Answer {
             Answer::Misused => {
                 f.write_str("usage: plan|validate|eval|state|contract|same|check|trial\n")
             }
+            Answer::NoSuchGuide => f.write_str("usage: no such guide\n"),
             Answer::Unreadable(subject) => write!(f, "fault: {subject} cannot be read\n"),
-            Answer::Shortest { task, actions } => write!(
-                f,
-                "plan 1\ntask {task}\n# shortest\nactions {}\n{}end\n",
-                actions.len(),
-                Lines(actions)
-            ),
+            Answer::Checked { counts, layout } => write!(f, "{counts}\n{}", Shown(layout)),
+            Answer::Printed(text) => write!(f, "{}", Shown(text)),
             Answer::NoneTo { depth } => write!(f, "none to {depth}\n"),
+            Answer::ManyStates => f.write_str("undecided: states\n"),
+            Answer::WideAfter { count, actions } => write!(
+                f,
+                "undecided: worlds after {count}\n{}",
+                Shown(actions)
+            ),
         }
-    }
-}
-
-// Texts, each with a line feed.
-#[derive(Drop)]
-struct Lines<'a>(&'a [String]);
-
-impl fmt::Display for Lines<'_> {
-    ghost output = { λ all. Some (lines (map string_bytes all.0.now)) };
-
-    fn fmt<W: fmt::Write>(&self, f: &mut fmt::Formatter<W>) -> fmt::Result {
-        for line in self.0 {
-            write!(f, "{line}\n")?;
-        }
-        Ok(())
     }
 }
 

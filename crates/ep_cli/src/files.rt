@@ -1,15 +1,18 @@
 // The files that a command names.
 ghost use Rattle.std.specs.Prelude.{MatchResult};
 ghost use Rattle.ep_cli.specs.Run.{GoesOn};
-ghost use Rattle.ep_cli.specs.Steps.{IsFetched, StopsAtFetch};
+ghost use Rattle.ep_cli.specs.Steps.{IsFetched, IsTaskFile, StopsAtFetch, StopsAtTask};
 
-use crate::answer::{Answer, Cause, Stop, Subject};
+use crate::answer::{Answer, Stop};
+use crate::cause::{Cause, Subject};
+use crate::read::read_task;
+use ep_ground::Task;
 use ep_io::{FetchError, Library};
 use std::alloc::Global;
 
 const FILE_LIMIT: u32 = 1_048_576;
 
-pub fn fetch_file<L: Library>(
+fn fetch_file<L: Library>(
     alloc: Global,
     files: &mut L,
     subject: Subject,
@@ -29,3 +32,17 @@ pub fn fetch_file<L: Library>(
         Err(FetchError::OutOfMemory) => Err(Stop::OutOfMemory),
     }
 }
+
+/// The ground task of a file.
+pub fn task_file<L: Library>(alloc: Global, files: &mut L, name: &str) -> Result<Task, Stop>
+    ensures goes_on { GoesOn (L.library files.old) (L.library files.new) }
+    ensures task { MatchResult result
+        (IsTaskFile (L.library files.old) name.now)
+        (StopsAtTask (L.library files.old) (L.library files.new) name.now) }
+{
+    let bytes = fetch_file(alloc, files, Subject::Task, name)?;
+    read_task(alloc, &bytes)
+}
+
+// Frees a task in a function of its own, so that no other proof has its many parts.
+pub fn discard(_task: Task) {}

@@ -1,13 +1,17 @@
-// The reading of texts: tokens, trees, types.
-ghost use Rattle.std.specs.Prelude.{◌≡◌, ◌≤◌, length, MatchResult};
+// The reading of texts: tokens, trees, types, and ground tasks.
+ghost use Rattle.std.specs.Prelude.{◌≡◌, ◌≤◌, length, MatchOption, MatchResult};
 ghost use Rattle.ep_lex.specs.Tokens.{AreTokens, spellings};
 ghost use Rattle.ep_syntax.specs.Grammar.{tasks, Reads};
 ghost use Rattle.ep_types.specs.Tasks.{HasNoFault, task_uses};
-ghost use Rattle.ep_cli.specs.declared.answer.Subject.TheVariants.{Task};
-ghost use Rattle.ep_cli.specs.Served.{AreLexed, Tokenized, Parsed, Judged, TaskRead, file_limit, place_at};
-ghost use Rattle.ep_cli.specs.Steps.{IsTaskOf, StopsBy, nothing_behind};
+ghost use Rattle.ep_parts.specs.Task.{IsRead};
+ghost use Rattle.ep_parts.specs.declared.fault.GroundError.TheVariants as fault;
+ghost use Rattle.ep_cli.specs.declared.cause.Subject.TheVariants.{Task as OfTask};
+ghost use Rattle.ep_cli.specs.Served.{AreLexed, IsCauseOf, TellsCause, Tokenized, Parsed, Judged, Grounded, TaskRead, file_limit, place_at};
+ghost use Rattle.ep_cli.specs.Steps.{IsGroundOf, IsTaskOf, StopsBy, nothing_behind};
 
-use crate::answer::{Answer, Cause, Place, Stop, Subject};
+use crate::answer::{Answer, Stop};
+use crate::cause::{Cause, Place, Subject};
+use ep_ground::{GroundError, Task, ground};
 use ep_lex::{LexError, TokenList};
 use ep_syntax::{SyntaxError, TaskTree};
 use ep_types::{TypeError, Typed};
@@ -42,7 +46,7 @@ fn tokens(alloc: Global, subject: Subject, bytes: &[u8]) -> Result<TokenList, St
 fn task_tree(alloc: Global, bytes: &[u8], found: &TokenList) -> Result<TaskTree, Stop>
     requires { AreTokens bytes.now found.now.tokens }
     ensures { MatchResult result (Reads tasks (spellings bytes.now found.now.tokens))
-        (StopsBy (Parsed tasks Task bytes.now found.now nothing_behind)) }
+        (StopsBy (Parsed tasks OfTask bytes.now found.now nothing_behind)) }
 {
     match ep_syntax::read_task(alloc, bytes, found) {
         Ok(tree) => Ok(tree),
@@ -60,7 +64,7 @@ fn task_tree(alloc: Global, bytes: &[u8], found: &TokenList) -> Result<TaskTree,
 
 fn typed_task(alloc: Global, found: &TokenList, tree: TaskTree) -> Result<Typed, Stop>
     ensures { MatchResult result (λ typed. (typed ≡ tree) × HasNoFault tree)
-        (StopsBy (Judged Task found.now (task_uses tree) (nothing_behind tree))) }
+        (StopsBy (Judged OfTask found.now (task_uses tree) (nothing_behind tree))) }
 {
     match ep_types::check(alloc, tree) {
         Ok(typed) => Ok(typed),
@@ -72,12 +76,53 @@ fn typed_task(alloc: Global, found: &TokenList, tree: TaskTree) -> Result<Typed,
     }
 }
 
-/// The task of the bytes, by its tokens, its tree and its types.
-pub fn read_task(alloc: Global, bytes: &[u8]) -> Result<Typed, Stop>
+// The cause that tells a ground fault; there is none for want of memory.
+fn cause_of(found: &TokenList, error: GroundError) -> Option<Cause>
+    ensures { MatchOption result (error ≡ fault.OutOfMemory) (IsCauseOf found.now error) }
+{
+    match error {
+        GroundError::TooManyObjects { count } => Some(Cause::TooManyObjects { count }),
+        GroundError::NoAgent => Some(Cause::NoAgent),
+        GroundError::TooManyAgents { count } => Some(Cause::TooManyAgents { count }),
+        GroundError::TooManyAtoms { count } => Some(Cause::TooManyAtoms { count }),
+        GroundError::TooManyActions { count } => Some(Cause::TooManyActions { count }),
+        GroundError::TooManyEvents { count, .. } => Some(Cause::TooManyEvents { count }),
+        GroundError::TooLargeFormula { token } => Some(Cause::TooLarge(place(found, token))),
+        GroundError::TooLargeTask { count } => Some(Cause::TooLargeTask { count }),
+        GroundError::AtomTwice { name } => Some(Cause::AtomTwice { name }),
+        GroundError::TooManyVaried { count } => Some(Cause::TooManyVaried { count }),
+        GroundError::TooManyWorlds { count } => Some(Cause::TooManyWorlds { count }),
+        GroundError::NoDesignated => Some(Cause::NoDesignated),
+        GroundError::OutOfMemory => None,
+    }
+}
+
+fn stop_of(found: &TokenList, error: GroundError) -> Stop
+    ensures { StopsBy (TellsCause found.now error) result }
+{
+    match cause_of(found, error) {
+        Some(cause) => Stop::Told(Answer::Refused(Subject::Task, cause)),
+        None => Stop::OutOfMemory,
+    }
+}
+
+fn ground_task(alloc: Global, found: &TokenList, typed: Typed) -> Result<Task, Stop>
+    requires { IsRead typed }
+    ensures { MatchResult result (IsGroundOf typed) (StopsBy (Grounded found.now typed nothing_behind)) }
+{
+    match ground(alloc, typed) {
+        Ok(task) => Ok(task),
+        Err(error) => Err(stop_of(found, error)),
+    }
+}
+
+/// The ground task of the bytes, by its tokens, its tree and its types.
+pub fn read_task(alloc: Global, bytes: &[u8]) -> Result<Task, Stop>
     requires { length bytes.now ≤ file_limit }
     ensures { MatchResult result (IsTaskOf bytes.now) (StopsBy (TaskRead bytes.now nothing_behind)) }
 {
     let found = tokens(alloc, Subject::Task, bytes)?;
     let tree = task_tree(alloc, bytes, &found)?;
-    typed_task(alloc, &found, tree)
+    let typed = typed_task(alloc, &found, tree)?;
+    ground_task(alloc, &found, typed)
 }

@@ -1,9 +1,9 @@
 -- The place of a refusal, with its line.
 use Rattle.std.proofs.Common.{inl, inr, ap}
 use Rattle.ep_cli.specs.declared.answer.Answer.TheVariants.{Refused}
-use Rattle.ep_cli.specs.declared.answer.Cause.TheVariants.{Syntax, TooDeep}
-use Rattle.ep_cli.specs.declared.answer.Place.{Place}
-use Rattle.ep_cli.specs.declared.answer.Subject.TheVariants.{Task}
+use Rattle.ep_cli.specs.declared.cause.Cause.TheVariants.{Syntax, TooDeep}
+use Rattle.ep_cli.specs.declared.cause.Place.{Place}
+use Rattle.ep_cli.specs.declared.cause.Subject.TheVariants.{Task}
 use Rattle.ep_cli.specs.Served.{answers}
 use Rattle.ep_cli.proofs.read.task_tree.Goals as goal
 

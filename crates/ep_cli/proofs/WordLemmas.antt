@@ -1,0 +1,65 @@
+-- The words of commands: their files, and the bounds that they give.
+use Rattle.std.proofs.Common.{◌≡◌, ℕ, ◌<◌, ◌≤◌, Bool, List, [], ◌∷◌, length, map, Option, Some, None, unwrap_or, IfSome, ap, subst, sym, refl, arith}
+use Rattle.ep_search.specs.Limits.{IsBounds}
+use Rattle.ep_words.specs.Options.{AreOptions, no_options, and_option, IsWithin, plan_of}
+use Rattle.ep_words.specs.Options as opt
+use Rattle.ep_words.specs.Words.{IsCommand, IsPlanned}
+use Rattle.ep_words.specs.declared.command.Bounds.{Bounds}
+use Rattle.ep_words.specs.declared.command.Command.{Command}
+use Rattle.ep_words.specs.declared.command.Command.TheVariants.{Plan, Validate, Eval, State, Contract, Same, Check, Trial}
+use Rattle.ep_words.specs.declared.options.Options.{Options}
+use Rattle.ep_words.specs.declared.options.PlanOption.{PlanOption}
+use Rattle.ep_words.specs.declared.options.PlanOption.TheVariants.{Depth, States, Worlds, Guide, First}
+use Rattle.ep_cli.specs.Commands.{search_bounds}
+
+-- ---- files
+
+pub plan_has_file : (words : List (List ℕ)) (b : Bounds) (guide : ℕ) (first : Bool) → IsCommand words (Plan b guide first) → 1 < length words
+plan_has_file [] b guide first h = absurd h
+plan_has_file (verb ∷ rest) b guide first h = let e : length rest ≡ length (h.1.file ∷ h.1.options) = ap length h.1.words_are in omega (arith, e)
+
+pub check_has_file : (words : List (List ℕ)) → IsCommand words Check → 1 < length words
+check_has_file [] h = absurd h
+check_has_file (verb ∷ []) h = absurd h.1
+check_has_file (verb ∷ file ∷ rest) h = omega arith
+
+-- ---- bounds
+
+-- the values that are given are within their limits
+record AreWithin (os : Options) : Type 0 where
+  depth : IfSome os.depth (λ n. n ≤ 1000)
+  states : IfSome os.states (λ n. (1 ≤ n) × (n ≤ 16384))
+  worlds : IfSome os.worlds (λ n. (1 ≤ n) × (n ≤ 256))
+
+one_within : (os : Options) (o : PlanOption) → IsWithin o → AreWithin os → AreWithin (and_option os o)
+one_within os (Depth n) w h = record { depth = w; states = h.states; worlds = h.worlds }
+one_within os (States n) w h = record { depth = h.depth; states = w; worlds = h.worlds }
+one_within os (Worlds n) w h = record { depth = h.depth; states = h.states; worlds = w }
+one_within os (Guide n) w h = record { depth = h.depth; states = h.states; worlds = h.worlds }
+one_within os First w h = record { depth = h.depth; states = h.states; worlds = h.worlds }
+
+all_within : (words : List (List ℕ)) (os all : Options) → AreOptions words os all → AreWithin os → AreWithin all
+all_within words os all opt.no_more h = h
+all_within words os all (opt.one_more o w within new more) h = all_within _ _ all more (one_within os o within h)
+
+or_default : (o : Option ℕ) (d : ℕ) (P : ℕ → Type 0) → IfSome o P → P d → P (unwrap_or o d)
+or_default None d P h p = p
+or_default (Some n) d P h p = h
+
+abbrev bounds_in : Command → Bounds → Bounds
+bounds_in (Plan b guide first) other = b
+bounds_in _ other = other
+
+pub plan_within : (words : List (List ℕ)) (b : Bounds) (guide : ℕ) (first : Bool) → IsCommand words (Plan b guide first) → IsBounds (search_bounds b)
+plan_within [] b guide first h = absurd h
+plan_within (verb ∷ rest) b guide first h =
+    let p = h.1 in
+    let w = all_within p.options no_options p.all p.are_options (record { depth = tt; states = tt; worlds = tt }) in
+    let states = or_default p.all.states 1000 (λ n. (1 ≤ n) × (n ≤ 16384)) w.states (omega arith, omega arith) in
+    let limits : IsBounds (search_bounds (bounds_in (plan_of p.all) b)) = record {
+      depth = or_default p.all.depth 8 (λ n. n ≤ 1000) w.depth (omega arith);
+      some_state = states.0;
+      states = states.1;
+      worlds = (or_default p.all.worlds 256 (λ n. (1 ≤ n) × (n ≤ 256)) w.worlds (omega arith, omega arith)).1;
+    } in
+    subst (λ c. IsBounds (search_bounds (bounds_in c b))) (sym p.makes) limits

@@ -168,3 +168,51 @@ fn nodes(rt: HostRuntime) -> Result<(), Fail> {
     }
     Ok(())
 }
+
+// The task whose worlds are the valuations of so many fluents that meet a law.
+fn lawful(alloc: Global, count: u32, law: &str) -> Result<String, Fail> {
+    let fluents = copies(alloc, "v", count)?;
+    let varied = names(alloc, "v", count)?;
+    Ok(format!(in alloc;
+        "task t; objects {{ ann : agent; }} fluents {{ {fluents} }}
+init {{ vary {{ {varied} }} law {law}; designated true; }} goal true;\n"
+    )?)
+}
+
+#[test]
+fn varied_atoms_and_worlds(rt: HostRuntime) -> Result<(), Fail> {
+    let alloc = rt.alloc();
+    let rows = [
+        (8, "true", Status::Ok, TAKEN),
+        (
+            9,
+            "true",
+            Status::Refused,
+            "refused: task: too many worlds: 512\n",
+        ),
+        (9, "v0", Status::Ok, TAKEN),
+        (
+            12,
+            "true",
+            Status::Refused,
+            "refused: task: too many worlds: 4096\n",
+        ),
+        (
+            13,
+            "true",
+            Status::Refused,
+            "refused: task: too many varied atoms: 13\n",
+        ),
+        (
+            2,
+            "false",
+            Status::Refused,
+            "refused: task: no designated world\n",
+        ),
+    ];
+    for (count, law, status, text) in rows {
+        let task = lawful(alloc, count, law)?;
+        answers(&rt, alloc, task.as_bytes(), status, text)?;
+    }
+    Ok(())
+}

@@ -1,6 +1,6 @@
 use crate::{GroundError, Task, ground, ground_formula, print_state};
 use ep_lex::tokens;
-use ep_logic::{ActionId, AgentId, AtomId, Formula, Node, Text};
+use ep_logic::{ActionId, AgentId, AtomId, Formula, Node, OutOfMemory, Text};
 use ep_syntax::{read_formula, read_task};
 use ep_types::{TypeFault, check};
 use ep_universe::FormulaFault;
@@ -49,11 +49,12 @@ fn task(rt: &impl Abort, alloc: Global, text: &str) -> Result<Result<Task, Groun
     Ok(ground(alloc, typed))
 }
 
-#[test]
-fn names(rt: HostRuntime) -> Result<(), Fail> {
-    let task = task(&rt, rt.alloc(), KINDS)??;
+// Frees a task in a function of its own, so that no test's proof has its many parts.
+fn discard(_task: Task) {}
+
+fn has_names(rt: &impl Abort, task: &Task) {
     assert_eq!(rt; task.name().as_slice(), "kinds".as_bytes());
-    assert_eq!(rt; (task.agents(), task.atoms(), task.actions()), (2, 1, 3));
+    assert!(rt; task.agents() == 2 && task.atoms() == 1 && task.actions() == 3);
     assert_eq!(rt;
         task.agent_name(AgentId { n: 1 }).as_slice(),
         "kid".as_bytes()
@@ -62,70 +63,101 @@ fn names(rt: HostRuntime) -> Result<(), Fail> {
         task.atom_name(AtomId { n: 0 }).as_slice(),
         "wet(kid)".as_bytes()
     );
-    for (number, name) in (0u32..3).zip(["look(ann)", "look(kid)", "dry(kid)"]) {
-        assert_eq!(rt;
-            task.action_name(ActionId { n: number }).as_slice(),
-            name.as_bytes()
-        );
-    }
+    assert_eq!(rt;
+        task.action_name(ActionId { n: 0 }).as_slice(),
+        "look(ann)".as_bytes()
+    );
+    assert_eq!(rt;
+        task.action_name(ActionId { n: 1 }).as_slice(),
+        "look(kid)".as_bytes()
+    );
+    assert_eq!(rt;
+        task.action_name(ActionId { n: 2 }).as_slice(),
+        "dry(kid)".as_bytes()
+    );
     assert_eq!(rt; task.action_by_name(b"dry(kid)"), Some(ActionId { n: 2 }));
     assert_eq!(rt; task.action_by_name(b"dry(ann)"), None);
+}
+
+#[test]
+fn names(rt: HostRuntime) -> Result<(), Fail> {
+    let task = task(&rt, rt.alloc(), KINDS)??;
+    has_names(&rt, &task);
+    discard(task);
     Ok(())
+}
+
+fn has_parts(rt: &impl Abort, task: &Task) {
+    assert_eq!(rt; task.objects(), 2);
+    assert_eq!(rt; task.initial().worlds(), 1);
+    assert!(rt; task.problem().actions() == 3);
+    assert_eq!(rt; task.action(ActionId { n: 2 }).events(), 1);
+    assert!(rt; matches!(task.goal().node(), Node::Not(_)));
+    assert_eq!(rt; task.typed().object_count(), 2);
 }
 
 #[test]
 fn parts(rt: HostRuntime) -> Result<(), Fail> {
     let task = task(&rt, rt.alloc(), KINDS)??;
-    assert_eq!(rt; task.objects(), 2);
-    assert_eq!(rt; task.initial().worlds(), 1);
-    assert_eq!(rt; task.problem().actions(), 3);
-    assert_eq!(rt; task.action(ActionId { n: 2 }).events(), 1);
-    assert!(rt; matches!(task.goal().node(), Node::Not(_)));
-    assert_eq!(rt; task.typed().object_count(), 2);
+    has_parts(&rt, &task);
+    discard(task);
     Ok(())
+}
+
+fn fault(grounded: Result<Task, GroundError>) -> Option<GroundError> {
+    match grounded {
+        Ok(task) => {
+            discard(task);
+            None
+        }
+        Err(error) => Some(error),
+    }
 }
 
 #[test]
 fn refusals(rt: HostRuntime) -> Result<(), Fail> {
-    let Err(GroundError::AtomTwice { name }) = task(&rt, rt.alloc(), PAIR)? else {
+    let Some(GroundError::AtomTwice { name }) = fault(task(&rt, rt.alloc(), PAIR)?) else {
         return Err("no atom set twice".into());
     };
     assert_eq!(rt; name.as_slice(), "swap(ann,ann)".as_bytes());
-    let nine = task(&rt, rt.alloc(), NINE)?;
-    assert!(rt; matches!(nine, Err(GroundError::TooManyAgents { count: 9 })));
-    let many = task(&rt, rt.alloc(), MANY)?;
-    assert!(rt; matches!(many, Err(GroundError::TooManyVaried { count: 13 })));
-    let nowhere = task(&rt, rt.alloc(), NOWHERE)?;
-    assert!(rt; matches!(nowhere, Err(GroundError::NoDesignated)));
+    let nine = fault(task(&rt, rt.alloc(), NINE)?);
+    assert!(rt; matches!(nine, Some(GroundError::TooManyAgents { count: 9 })));
+    let many = fault(task(&rt, rt.alloc(), MANY)?);
+    assert!(rt; matches!(many, Some(GroundError::TooManyVaried { count: 13 })));
+    let nowhere = fault(task(&rt, rt.alloc(), NOWHERE)?);
+    assert!(rt; matches!(nowhere, Some(GroundError::NoDesignated)));
     Ok(())
 }
 
 // The text of the initial state of a task.
-fn initial_text(rt: &impl Abort, alloc: Global, task: &Task) -> Result<Text, Fail> {
+fn initial_text(rt: &impl Abort, alloc: Global, task: &Task) -> Result<Text, OutOfMemory> {
     let state = task.initial();
     assert!(rt; state.agents() == task.agents());
     assert!(rt; state.atoms() == task.atoms());
-    Ok(print_state(alloc, task, state)?)
+    print_state(alloc, task, state)
 }
 
 #[test]
-fn text_of_an_explicit_state(rt: HostRuntime) -> Result<(), Fail> {
-    let task = task(&rt, rt.alloc(), COIN)??;
-    let text = initial_text(&rt, rt.alloc(), &task)?;
-    let want = "worlds 2\natom heads\nworld 0 1 designated\nworld 1 0\n\
-        links ann 0: 0 1\nlinks ann 1: 0 1\nlinks bob 0: 0 1\nlinks bob 1: 0 1\n";
-    assert_eq!(rt; text.as_slice(), want.as_bytes());
-    Ok(())
-}
-
-#[test]
-fn text_of_a_lawful_state(rt: HostRuntime) -> Result<(), Fail> {
-    let task = task(&rt, rt.alloc(), LETTER)??;
-    let text = initial_text(&rt, rt.alloc(), &task)?;
-    let want = "worlds 2\natom pass\nworld 0 0\nworld 1 1 designated\n\
-        links ann 0: 0\nlinks ann 1: 1\nlinks bob 0: 0 1\nlinks bob 1: 0 1\n\
-        links cat 0: 0 1\nlinks cat 1: 0 1\n";
-    assert_eq!(rt; text.as_slice(), want.as_bytes());
+fn texts_of_states(rt: HostRuntime) -> Result<(), Fail> {
+    let rows = [
+        (
+            COIN,
+            "worlds 2\natom heads\nworld 0 1 designated\nworld 1 0\n\
+            links ann 0: 0 1\nlinks ann 1: 0 1\nlinks bob 0: 0 1\nlinks bob 1: 0 1\n",
+        ),
+        (
+            LETTER,
+            "worlds 2\natom pass\nworld 0 0\nworld 1 1 designated\n\
+            links ann 0: 0\nlinks ann 1: 1\nlinks bob 0: 0 1\nlinks bob 1: 0 1\n\
+            links cat 0: 0 1\nlinks cat 1: 0 1\n",
+        ),
+    ];
+    for (text, want) in rows {
+        let task = task(&rt, rt.alloc(), text)??;
+        let told = initial_text(&rt, rt.alloc(), &task);
+        discard(task);
+        assert_eq!(rt; told?.as_slice(), want.as_bytes());
+    }
     Ok(())
 }
 
@@ -142,12 +174,10 @@ fn form(
     Ok(ground_formula(alloc, task, &tree))
 }
 
-#[test]
-fn formulas(rt: HostRuntime) -> Result<(), Fail> {
-    let task = task(&rt, rt.alloc(), COIN)??;
-    let known = form(&rt, rt.alloc(), &task, "knows bob heads")??;
+fn has_forms(rt: &impl Abort, alloc: Global, task: &Task) -> Result<(), Fail> {
+    let known = form(rt, alloc, task, "knows bob heads")??;
     assert!(rt; matches!(known.node(), Node::Knows(AgentId { n: 1 }, _)));
-    let other = form(&rt, rt.alloc(), &task, "not tails")?;
+    let other = form(rt, alloc, task, "not tails")?;
     assert!(rt;
         matches!(
             other,
@@ -158,4 +188,12 @@ fn formulas(rt: HostRuntime) -> Result<(), Fail> {
         )
     );
     Ok(())
+}
+
+#[test]
+fn formulas(rt: HostRuntime) -> Result<(), Fail> {
+    let task = task(&rt, rt.alloc(), COIN)??;
+    let told = has_forms(&rt, rt.alloc(), &task);
+    discard(task);
+    told
 }

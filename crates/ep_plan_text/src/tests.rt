@@ -1,9 +1,9 @@
-use crate::{Mark, PlanError, print_plan, read_plan};
+use crate::{Mark, PlanError, print_actions, print_plan, read_plan};
 use ep_ground::{Task, ground};
 use ep_lex::tokens;
 use ep_logic::{ActionId, List};
 use ep_problem::Plan;
-use ep_syntax::{InitTree, read_task};
+use ep_syntax::read_task;
 use ep_types::check;
 use std::alloc::Global;
 use std::process::Abort;
@@ -23,11 +23,11 @@ fn coin(rt: &impl Abort, alloc: Global) -> Result<Task, Fail> {
     let _count = found.count();
     let tree = read_task(alloc, bytes, &found)?;
     let typed = check(alloc, tree)?;
-    let InitTree::Explicit { .. } = &typed.tree().init else {
-        return Err("not explicit".into());
-    };
     Ok(ground(alloc, typed)?)
 }
+
+// Frees a task in a function of its own, so that no test's proof has its many parts.
+fn discard(_task: Task) {}
 
 fn read(rt: &impl Abort, alloc: Global, task: &Task, text: &[u8]) -> Result<Plan, PlanError> {
     assert!(rt; text.len() <= 1_048_576);
@@ -40,53 +40,60 @@ fn a_plan_with_comments(rt: HostRuntime) -> Result<(), Fail> {
     let text =
         "# by hand\nplan 1 task coin\nactions 3 # of them\ntwice peek\n( bob\n) peek(ann)\nend # .";
     let task = coin(&rt, rt.alloc())?;
-    let plan = read(&rt, rt.alloc(), &task, text.as_bytes())?;
+    let plan = read(&rt, rt.alloc(), &task, text.as_bytes());
+    discard(task);
     let want = [2u32, 1, 0].map(|n| ActionId { n });
-    assert_eq!(rt; plan.as_slice(), want.as_slice());
+    assert_eq!(rt; plan?.as_slice(), want.as_slice());
     Ok(())
+}
+
+const REFUSED: [(&str, PlanError); 8] = [
+    ("plan 1\ntask coin\n?", PlanError::Stray { at: 17 }),
+    (
+        "plan 2\ntask coin\nactions 0\nend\n",
+        PlanError::Syntax { token: 1, line: 1 },
+    ),
+    (
+        "plan 1\ntask coin\nactions 01\ntwice\nend\n",
+        PlanError::Syntax { token: 5, line: 3 },
+    ),
+    (
+        "plan 1\ntask coin\nactions 1\npeek(an",
+        PlanError::Syntax { token: 9, line: 4 },
+    ),
+    (
+        "plan 1\ntask other\nactions 2\nfly\nend\n",
+        PlanError::OtherTask,
+    ),
+    (
+        "plan 1\ntask coin\nactions 2\nfly\nend\n",
+        PlanError::UnknownAction { line: 4 },
+    ),
+    (
+        "plan 1\ntask coin\nactions 1\ntwice\npeek\nend\n",
+        PlanError::UnknownAction { line: 5 },
+    ),
+    (
+        "plan 1\ntask coin\nactions 2\ntwice\nend\n",
+        PlanError::WrongCount {
+            stated: 2,
+            listed: 1,
+        },
+    ),
+];
+
+fn refuses(rt: &impl Abort, alloc: Global, task: &Task) {
+    for (text, want) in REFUSED {
+        let found = read(rt, alloc, task, text.as_bytes()).err();
+        assert_eq!(rt; found, Some(want), "{text}");
+    }
 }
 
 #[test]
 fn refused_plans(rt: HostRuntime) -> Result<(), Fail> {
-    let rows = [
-        ("plan 1\ntask coin\n?", PlanError::Stray { at: 17 }),
-        (
-            "plan 2\ntask coin\nactions 0\nend\n",
-            PlanError::Syntax { token: 1, line: 1 },
-        ),
-        (
-            "plan 1\ntask coin\nactions 01\ntwice\nend\n",
-            PlanError::Syntax { token: 5, line: 3 },
-        ),
-        (
-            "plan 1\ntask coin\nactions 1\npeek(an",
-            PlanError::Syntax { token: 9, line: 4 },
-        ),
-        (
-            "plan 1\ntask other\nactions 2\nfly\nend\n",
-            PlanError::OtherTask,
-        ),
-        (
-            "plan 1\ntask coin\nactions 2\nfly\nend\n",
-            PlanError::UnknownAction { line: 4 },
-        ),
-        (
-            "plan 1\ntask coin\nactions 1\ntwice\npeek\nend\n",
-            PlanError::UnknownAction { line: 5 },
-        ),
-        (
-            "plan 1\ntask coin\nactions 2\ntwice\nend\n",
-            PlanError::WrongCount {
-                stated: 2,
-                listed: 1,
-            },
-        ),
-    ];
     let task = coin(&rt, rt.alloc())?;
-    for (text, want) in rows {
-        let found = read(&rt, rt.alloc(), &task, text.as_bytes()).err();
-        assert_eq!(rt; found, Some(want), "{text}");
-    }
+    refuses(&rt, rt.alloc(), &task);
+    discard(task);
     Ok(())
 }
 
@@ -100,38 +107,48 @@ fn too_many(alloc: Global) -> Result<Vec<u8>, Fail> {
 
 #[test]
 fn too_many_tokens(rt: HostRuntime) -> Result<(), Fail> {
-    let task = coin(&rt, rt.alloc())?;
     let text = too_many(rt.alloc())?;
+    let task = coin(&rt, rt.alloc())?;
     let found = read(&rt, rt.alloc(), &task, text.as_slice()).err();
+    discard(task);
     assert_eq!(rt; found, Some(PlanError::TooManyTokens));
+    Ok(())
+}
+
+const PRINTED: [(Mark, &str); 3] = [
+    (
+        Mark::Plain,
+        "plan 1\ntask coin\nactions 2\ntwice\npeek(ann)\nend\n",
+    ),
+    (
+        Mark::Shortest,
+        "plan 1\ntask coin\n# shortest\nactions 2\ntwice\npeek(ann)\nend\n",
+    ),
+    (
+        Mark::Found,
+        "plan 1\ntask coin\n# found\nactions 2\ntwice\npeek(ann)\nend\n",
+    ),
+];
+
+fn prints(rt: &impl Abort, alloc: Global, task: &Task, plan: &Plan) -> Result<(), Fail> {
+    let known = task.actions();
+    assert!(rt; plan.as_slice().iter().all(|a| a.n < known));
+    for (mark, want) in PRINTED {
+        let text = print_plan(alloc, task, plan, mark)?;
+        assert_eq!(rt; text.as_slice(), want.as_bytes());
+    }
+    let lines = print_actions(alloc, task, plan)?;
+    assert_eq!(rt; lines.as_slice(), "twice\npeek(ann)\n".as_bytes());
     Ok(())
 }
 
 #[test]
 fn printed_plans(rt: HostRuntime) -> Result<(), Fail> {
-    let rows = [
-        (
-            Mark::Plain,
-            "plan 1\ntask coin\nactions 2\ntwice\npeek(ann)\nend\n",
-        ),
-        (
-            Mark::Shortest,
-            "plan 1\ntask coin\n# shortest\nactions 2\ntwice\npeek(ann)\nend\n",
-        ),
-        (
-            Mark::Found,
-            "plan 1\ntask coin\n# found\nactions 2\ntwice\npeek(ann)\nend\n",
-        ),
-    ];
-    let task = coin(&rt, rt.alloc())?;
     let mut plan = List::new(rt.alloc());
     plan.push(ActionId { n: 2 })?;
     plan.push(ActionId { n: 0 })?;
-    let known = task.actions();
-    assert!(rt; plan.as_slice().iter().all(|a| a.n < known));
-    for (mark, want) in rows {
-        let text = print_plan(rt.alloc(), &task, &plan, mark)?;
-        assert_eq!(rt; text.as_slice(), want.as_bytes());
-    }
-    Ok(())
+    let task = coin(&rt, rt.alloc())?;
+    let told = prints(&rt, rt.alloc(), &task, &plan);
+    discard(task);
+    told
 }

@@ -3,7 +3,7 @@ use Rattle.ep_parts.specs.Task.{IsRead}
 use Rattle.ep_ground.proofs.TaskLemmas.{is_read}
 use Rattle.ep_ground.proofs.tests.task.Goals as goal
 
-pub ground-requires-clause-read : goal.ground-requires-clause-read
-ground-requires-clause-read g c =
+pub ground-requires : goal.ground-requires
+ground-requires g c =
     let reads = is_read c.as_bytes-bytes.result.now c.in_ok-found.found.tokens c.in_ok-tree.tree (omega (arith, c.count-count.ensures.bound)) c.in_ok-tree.ensures.read in
-    subst IsRead (sym c.in_ok-typed.ensures.tree) reads
+    record { read = subst IsRead (sym c.in_ok-typed.ensures.tree) reads }

@@ -1,5 +1,5 @@
 -- From the answer of a step to the answer of its command, and from there to the answer of the words.
-use Rattle.std.proofs.Common.{◌≡◌, ◌≢◌, ◌≤◌, ◌+◌, ◌-◌, ◌^◌, min, ℕ, List, length, IfSome, IfNone, IsSome, Option, Some, None, MatchOption, Bool, Result, inl, inr, refl, sym, subst, ◌∙◌, arith}
+use Rattle.std.proofs.Common.{◌≡◌, ◌≢◌, ◌<◌, ◌≤◌, ◌↔◌, ◌+◌, ◌-◌, ◌^◌, min, ℕ, List, length, IfSome, IfNone, IsSome, Option, Some, None, MatchOption, Bool, Result, inl, inr, refl, sym, subst, ◌∙◌, arith}
 use Rattle.std.proofs.lemmas.Result.{MatchResult-weaker}
 use Rattle.ep_io.specs.Counts.{FaultSince, RoseBeyond}
 use Rattle.ep_io.specs.Library.{LibraryState, FileMap, file_of}
@@ -17,7 +17,7 @@ use Rattle.ep_words.specs.declared.command.Bounds.{Bounds}
 use Rattle.ep_words.specs.declared.command.Command.{Command}
 use Rattle.ep_words.specs.declared.command.Command.TheVariants.{Plan, Check}
 use Rattle.ep_cli.specs.declared.answer.Answer.{Answer}
-use Rattle.ep_cli.specs.declared.answer.Answer.TheVariants.{Refused, Misused}
+use Rattle.ep_cli.specs.declared.answer.Answer.TheVariants.{Refused, Misused, NoSuchGuide}
 use Rattle.ep_cli.specs.declared.answer.Stop.{Stop}
 use Rattle.ep_cli.specs.declared.answer.Stop.TheVariants.{Told, OutOfMemory}
 use Rattle.ep_cli.specs.declared.cause.Cause.{Cause}
@@ -25,13 +25,14 @@ use Rattle.ep_cli.specs.declared.cause.Cause.TheVariants as cause
 use Rattle.ep_cli.specs.declared.cause.Subject.{Subject}
 use Rattle.ep_cli.specs.declared.cause.Subject.TheVariants.{Words, Task}
 use Rattle.ep_cli.specs.declared.status.Status.{Status}
+use Rattle.ep_cli.specs.declared.status.Status.TheVariants.{ReadFault}
 use Rattle.ep_cli.specs.Answer.{answer_status, answer_text}
-use Rattle.ep_cli.specs.Commands.{Checks, CommandWork, Guided, Names, Plans, Work, word_at}
+use Rattle.ep_cli.specs.Commands.{Checks, CommandWork, Guided, LacksGuide, Misuses, Names, Plans, Work, word_at}
 use Rattle.ep_cli.specs.Run.{GoesOn, IsAnswerOf, IsAnswer, NamesFile}
 use Rattle.ep_cli.specs.Served.{Outcome, Answers, StopsAt, Sized, Fetched, TaskRead, TaskFile, TellsCause, IsCauseOf, Grounded, answers, place_at}
-use Rattle.ep_cli.specs.Steps.{OnlyFile, IsFetched, IsTaskOf, IsTaskFile, StopsAtFetch, StopsAtTask, Serves, StopsBy, StopsWork, nothing_behind}
+use Rattle.ep_cli.specs.Steps.{OnlyFile, IsFetched, IsTaskOf, IsTaskFile, StopsAtFetch, StopsAtTask, Serves, StopsAnswer, StopsBy, StopsWork, nothing_behind}
 use Rattle.ep_cli.proofs.Steps.{Fetched-weaker, TaskRead-weaker, TaskRead-behind}
-use Rattle.ep_cli.proofs.Told.{IsBehind, refusal_is_behind, usage_is_behind}
+use Rattle.ep_cli.proofs.Told.{IsBehind, no_guide_no_fetch, refusal_is_behind, usage_no_fetch}
 
 pub some_map : {A : Type 0} {P Q : A → Type 0} (o : Option A) → ((x : A) → P x → Q x) → IfSome o P → IfSome o Q
 some_map None f h = h
@@ -44,12 +45,13 @@ both_map (Some x) f h k = f x h k
 -- ---- answers of more work
 
 -- what one work may end with the other may, over what the library holds
-pub IsAnswerOf-held : (work more : FileMap → Outcome → Type 0) (names others : Subject → List ℕ → Type 0)
-    (old new : LibraryState) (status : Status) (text : List ℕ)
+pub IsAnswerOf-held : (work more : FileMap → Outcome → Type 0) (names others : Subject → List ℕ → Type 0) (one other : Type 0)
+    (old new : LibraryState) (status : Status) (text : List ℕ) → (one ↔ other)
     → IfSome old.held (λ files. (o : Outcome) → work files o → more files o) → ((s : Subject) (name : List ℕ) → names s name → others s name)
-    → IsAnswerOf work names old new status text → IsAnswerOf more others old new status text
-IsAnswerOf-held work more names others old new status text f g h = record {
+    → IsAnswerOf work names one old new status text → IsAnswerOf more others other old new status text
+IsAnswerOf-held work more names others one other old new status text m f g h = record {
   possible = h.possible;
+  usage = (λ e. m.0 (h.usage.0 e), λ o. h.usage.1 (m.1 o));
   served = λ n. both_map old.held (λ files k w. k (Answers status text) w) f (h.served n);
   fault = λ e. let p = h.fault e in (
     p.0,
@@ -74,14 +76,15 @@ pub StopsWork-more : (work more : FileMap → Outcome → Type 0) (names others 
     → ((files : FileMap) (o : Outcome) → work files o → more files o) → ((s : Subject) (name : List ℕ) → names s name → others s name)
     → StopsWork work names old new stop → StopsWork more others old new stop
 StopsWork-more work more names others old new (Told answer) f g h =
-    IsAnswerOf-held work more names others old new (answer_status answer) (answer_text answer) (all_held old.held f) g h
+    IsAnswerOf-held work more names others ⊥ ⊥ old new (answer_status answer) (answer_text answer) (λ x. x, λ x. x) (all_held old.held f) g h
 StopsWork-more work more names others old new OutOfMemory f g h = h
 
 -- what is told behind the fetches is the answer
 pub behind_is_answer : (work : FileMap → Outcome → Type 0) (names : Subject → List ℕ → Type 0) (old new : LibraryState) (status : Status) (text : List ℕ)
-    → IsBehind status text → IfSome old.held (λ files. work files (Answers status text)) → IsAnswerOf work names old new status text
+    → IsBehind status text → IfSome old.held (λ files. work files (Answers status text)) → IsAnswerOf work names ⊥ old new status text
 behind_is_answer work names old new status text b h = record {
   possible = b.written;
+  usage = (λ e. b.no_usage e, λ x. absurd x);
   served = λ n. h;
   fault = λ e. absurd (b.no_fault e);
   missing = λ s e. absurd (b.not_missing s e);
@@ -175,7 +178,7 @@ stops_at_task old new file P names stop f h =
 -- a command that ends with an answer for its task
 pub ends_with : (old new : LibraryState) (file : List ℕ) (g : GroundTask) (P : GroundTask → Outcome → Type 0) (names : Subject → List ℕ → Type 0) (answer : Answer)
     → IsTaskFile old file g → P g (answers answer) → IsBehind (answer_status answer) (answer_text answer)
-    → IsAnswerOf (λ files. TaskFile files file P) names old new (answer_status answer) (answer_text answer)
+    → IsAnswerOf (λ files. TaskFile files file P) names ⊥ old new (answer_status answer) (answer_text answer)
 ends_with old new file g P names answer t h b =
     behind_is_answer (λ files. TaskFile files file P) names old new (answer_status answer) (answer_text answer) b
     (some_map old.held (λ files k. k (answers answer) h) (task_then old file g (λ files o. P g o) (λ files. P) t (λ files o w. w)))
@@ -187,9 +190,10 @@ less_min a b c h = grind arith
 
 -- what the library did before is part of it
 pub later : (work : FileMap → Outcome → Type 0) (names : Subject → List ℕ → Type 0) (old mid new : LibraryState) (status : Status) (text : List ℕ)
-    → GoesOn old mid → IsAnswerOf work names mid new status text → IsAnswerOf work names old new status text
+    → GoesOn old mid → IsAnswerOf work names ⊥ mid new status text → IsAnswerOf work names ⊥ old new status text
 later work names old mid new status text on h = record {
   possible = h.possible;
+  usage = h.usage;
   served = λ n. subst (λ held. IfSome held (λ files. work files (Answers status text))) on.held (h.served n);
   fault = λ e. let p = h.fault e in (
     p.0,
@@ -216,13 +220,51 @@ later work names old mid new status text on h = record {
 
 -- ---- commands
 
-pub Serves-more : (work more : FileMap → Outcome → Type 0) (names others : Subject → List ℕ → Type 0) (old new : LibraryState) (r : Result Answer Stop)
+StopsAnswer-more : (work more : FileMap → Outcome → Type 0) (names others : Subject → List ℕ → Type 0) (misuse : Type 0) (old new : LibraryState) (stop : Stop)
     → ((files : FileMap) (o : Outcome) → work files o → more files o) → ((s : Subject) (name : List ℕ) → names s name → others s name)
-    → Serves work names old new r → Serves more others old new r
-Serves-more work more names others old new r f g h =
+    → StopsAnswer work names misuse old new stop → StopsAnswer more others misuse old new stop
+StopsAnswer-more work more names others misuse old new (Told answer) f g h =
+    IsAnswerOf-held work more names others misuse misuse old new (answer_status answer) (answer_text answer) (λ x. x, λ x. x) (all_held old.held f) g h
+StopsAnswer-more work more names others misuse old new OutOfMemory f g h = h
+
+pub Serves-more : (work more : FileMap → Outcome → Type 0) (names others : Subject → List ℕ → Type 0) (misuse : Type 0) (old new : LibraryState) (r : Result Answer Stop)
+    → ((files : FileMap) (o : Outcome) → work files o → more files o) → ((s : Subject) (name : List ℕ) → names s name → others s name)
+    → Serves work names misuse old new r → Serves more others misuse old new r
+Serves-more work more names others misuse old new r f g h =
     MatchResult-weaker r h
-    (λ answer k. IsAnswerOf-held work more names others old new (answer_status answer) (answer_text answer) (all_held old.held f) g k)
-    (λ stop k. StopsWork-more work more names others old new stop f g k)
+    (λ answer k. IsAnswerOf-held work more names others misuse misuse old new (answer_status answer) (answer_text answer) (λ x. x, λ x. x) (all_held old.held f) g k)
+    (λ stop k. StopsAnswer-more work more names others misuse old new stop f g k)
+
+-- where there is no guide at the place
+pub serves_no_guide : (guides place : ℕ) (work : FileMap → Outcome → Type 0) (names : Subject → List ℕ → Type 0) (library : LibraryState) → guides ≤ place
+    → IsAnswerOf (λ files. Guided guides place (work files)) names (guides ≤ place) library library (answer_status NoSuchGuide) (answer_text NoSuchGuide)
+serves_no_guide guides place work names library l = record {
+  possible = tt;
+  usage = (λ e. l, λ x. refl);
+  served = λ n. all_held library.held (λ files. inl (l, refl));
+  fault = λ e. absurd (no_fault e);
+  missing = λ s e. absurd (no_guide_no_fetch s cause.NoSuchFile e);
+  too_long = λ s e. absurd (no_guide_no_fetch s cause.TooLong e);
+}
+  where
+    no_fault : answer_status NoSuchGuide ≡ ReadFault → ⊥
+    no_fault e = cc
+
+-- and where there is one
+pub serves_guided : (guides place : ℕ) (work : FileMap → Outcome → Type 0) (names : Subject → List ℕ → Type 0) (old new : LibraryState) (r : Result Answer Stop) → place < guides
+    → Serves work names ⊥ old new r → Serves (λ files. Guided guides place (work files)) names (guides ≤ place) old new r
+serves_guided guides place work names old new r l h =
+    let none : ⊥ ↔ (guides ≤ place) = (λ x. absurd x, λ k. absurd (omega (arith, k, l))) in
+    MatchResult-weaker r h
+    (λ answer k. IsAnswerOf-held work (λ files. Guided guides place (work files)) names names ⊥ (guides ≤ place) old new (answer_status answer) (answer_text answer) none
+    (all_held old.held (λ files o w. inr (l, w))) (λ s name n. n) k)
+    (λ stop k. guided_stop stop k)
+  where
+    guided_stop : (stop : Stop) → StopsWork work names old new stop → StopsAnswer (λ files. Guided guides place (work files)) names (guides ≤ place) old new stop
+    guided_stop (Told answer) k =
+        IsAnswerOf-held work (λ files. Guided guides place (work files)) names names ⊥ (guides ≤ place) old new (answer_status answer) (answer_text answer)
+        (λ x. absurd x, λ k. absurd (omega (arith, k, l))) (all_held old.held (λ files o w. inr (l, w))) (λ s name n. n) k
+    guided_stop OutOfMemory k = k
 
 only_task : (words : List (List ℕ)) (file : List ℕ) → file ≡ word_at words 1 → (s : Subject) (name : List ℕ) → OnlyFile Task file s name → Names words Check s name
 only_task words file e Words name p = let no : Words ≡ Task = p.0 in cc
@@ -233,31 +275,49 @@ plan_names words b guide first Words name n = n
 plan_names words b guide first Task name n = n
 
 pub serves_check : (words : List (List ℕ)) (guides : ℕ) (file : List ℕ) (old new : LibraryState) (r : Result Answer Stop) → file ≡ word_at words 1
-    → Serves (λ files. TaskFile files file Checks) (OnlyFile Task file) old new r
-    → Serves (λ files. CommandWork files words guides Check) (Names words Check) old new r
+    → Serves (λ files. TaskFile files file Checks) (OnlyFile Task file) ⊥ old new r
+    → Serves (λ files. CommandWork files words guides Check) (Names words Check) ⊥ old new r
 serves_check words guides file old new r e h =
-    Serves-more (λ files. TaskFile files file Checks) (λ files. CommandWork files words guides Check) (OnlyFile Task file) (Names words Check) old new r
+    Serves-more (λ files. TaskFile files file Checks) (λ files. CommandWork files words guides Check) (OnlyFile Task file) (Names words Check) ⊥ old new r
     (λ files o w. subst (λ f. TaskFile files f Checks o) e w) (only_task words file e) h
 
 pub serves_plan : (words : List (List ℕ)) (guides : ℕ) (b : Bounds) (guide : ℕ) (first : Bool) (file : List ℕ) (old new : LibraryState) (r : Result Answer Stop) (k : Command) → k ≡ Plan b guide first → file ≡ word_at words 1
-    → Serves (λ files. Guided guides guide (TaskFile files file (Plans b first))) (OnlyFile Task file) old new r
-    → Serves (λ files. CommandWork files words guides k) (Names words k) old new r
+    → Serves (λ files. Guided guides guide (TaskFile files file (Plans b first))) (OnlyFile Task file) (guides ≤ guide) old new r
+    → Serves (λ files. CommandWork files words guides k) (Names words k) (LacksGuide guides k) old new r
 serves_plan words guides b guide first file old new r k is e h =
-    subst (λ (k : Command). Serves (λ files. CommandWork files words guides k) (Names words k) old new r) (sym is)
-    (Serves-more (λ files. Guided guides guide (TaskFile files file (Plans b first))) (λ files. CommandWork files words guides (Plan b guide first)) (OnlyFile Task file) (Names words (Plan b guide first)) old new r
+    subst (λ (k : Command). Serves (λ files. CommandWork files words guides k) (Names words k) (LacksGuide guides k) old new r) (sym is)
+    (Serves-more (λ files. Guided guides guide (TaskFile files file (Plans b first))) (λ files. CommandWork files words guides (Plan b guide first)) (OnlyFile Task file) (Names words (Plan b guide first)) (guides ≤ guide) old new r
     (λ files o w. subst (λ f. Guided guides guide (TaskFile files f (Plans b first)) o) e w) (λ s name p. plan_names words b guide first s name (only_task words file e s name p)) h)
 
 -- ---- the words
 
+-- the words of a command are misused exactly where it asks for a guide that is not there
+command_misuse : (words : List (List ℕ)) (guides : ℕ) (command : Command) → IsCommand words command → ((other : Command) → IsCommand words other → other ≡ command) → LacksGuide guides command ↔ Misuses words guides
+command_misuse words guides command are only = (λ l. inr (command, are, l), back)
+  where
+    back : Misuses words guides → LacksGuide guides command
+    back (inl none) = absurd (none command are)
+    back (inr (other, is, l)) = subst (LacksGuide guides) (only other is) l
+
 -- what the command may answer its words may answer
 pub IsAnswer-command : (words : List (List ℕ)) (guides : ℕ) (command : Command) (old new : LibraryState) (status : Status) (text : List ℕ)
-    → IsCommand words command → IsAnswerOf (λ files. CommandWork files words guides command) (Names words command) old new status text → IsAnswer words guides old new status text
-IsAnswer-command words guides command old new status text are h =
-    IsAnswerOf-held (λ files. CommandWork files words guides command) (λ files. Work files words guides) (Names words command) (NamesFile words) old new status text
+    → IsCommand words command → ((other : Command) → IsCommand words other → other ≡ command)
+    → IsAnswerOf (λ files. CommandWork files words guides command) (Names words command) (LacksGuide guides command) old new status text → IsAnswer words guides old new status text
+IsAnswer-command words guides command old new status text are only h =
+    IsAnswerOf-held (λ files. CommandWork files words guides command) (λ files. Work files words guides) (Names words command) (NamesFile words) (LacksGuide guides command) (Misuses words guides) old new status text
+    (command_misuse words guides command are only)
     (all_held old.held (λ files o w. inr (command, are, w))) (λ s name n. (command, are, n)) h
 
 pub misused_is_answer : (words : List (List ℕ)) (guides : ℕ) (library : LibraryState) → ((command : Command) → IsCommand words command → ⊥)
     → IsAnswer words guides library library (answer_status Misused) (answer_text Misused)
-misused_is_answer words guides library none =
-    behind_is_answer (λ files. Work files words guides) (NamesFile words) library library (answer_status Misused) (answer_text Misused) usage_is_behind
-    (all_held library.held (λ files. inl (none, refl)))
+misused_is_answer words guides library none = record {
+  possible = tt;
+  usage = (λ e. inl none, λ x. refl);
+  served = λ n. all_held library.held (λ files. inl (none, refl));
+  fault = λ e. absurd (no_fault e);
+  missing = λ s e. absurd (usage_no_fetch s cause.NoSuchFile e);
+  too_long = λ s e. absurd (usage_no_fetch s cause.TooLong e);
+}
+  where
+    no_fault : answer_status Misused ≡ ReadFault → ⊥
+    no_fault e = cc

@@ -23,6 +23,7 @@ use Rattle.ep_cli.specs.Status.{IsWritten}
 pub record IsBehind (status : Status) (text : List ℕ) : Type 0 where
   pub written : IsWritten status
   pub no_fault : status ≢ done.ReadFault
+  pub no_usage : status ≢ done.Usage
   pub not_missing : (s : Subject) → text ≡ answer_text (Refused s cause.NoSuchFile) → ⊥
   pub not_long : (s : Subject) → text ≡ answer_text (Refused s cause.TooLong) → ⊥
 
@@ -152,6 +153,7 @@ refusal : (s : Subject) (c : Cause) → IsBehindFetch c → IsBehind (answer_sta
 refusal s c b = record {
   written = tt;
   no_fault = λ e. cc;
+  no_usage = λ e. cc;
   not_missing = λ t e. cause_not_missing c b (same_cause s t c cause.NoSuchFile e);
   not_long = λ t e. cause_not_long c b (same_cause s t c cause.TooLong e);
 }
@@ -163,10 +165,11 @@ refusal_is_behind status text s c b e =
     rw (p, t) (refusal s c b)
 
 -- a text that begins with no `r`
-pub other_is_behind : (status : Status) (text : List ℕ) → IsWritten status → status ≢ done.ReadFault → eqb (get_or text 0 0) 114 ≡ false → IsBehind status text
-other_is_behind status text w n d = record {
+pub other_is_behind : (status : Status) (text : List ℕ) → IsWritten status → status ≢ done.ReadFault → status ≢ done.Usage → eqb (get_or text 0 0) 114 ≡ false → IsBehind status text
+other_is_behind status text w n u d = record {
   written = w;
   no_fault = n;
+  no_usage = u;
   not_missing = λ s e. no_refusal text s cause.NoSuchFile d e;
   not_long = λ s e. no_refusal text s cause.TooLong d e;
 }
@@ -177,21 +180,22 @@ answers_are status other text told e b =
     let t : text ≡ told = cc in
     rw (p, t) b
 
-pub usage_is_behind : IsBehind (answer_status Misused) (answer_text Misused)
-usage_is_behind = other_is_behind (answer_status Misused) (answer_text Misused) tt (λ e. cc) refl
+-- the texts of misused words
+pub usage_no_fetch : (s : Subject) (c : Cause) → answer_text Misused ≡ answer_text (Refused s c) → ⊥
+usage_no_fetch s c e = no_refusal (answer_text Misused) s c refl e
 
-pub no_guide_is_behind : IsBehind (answer_status NoSuchGuide) (answer_text NoSuchGuide)
-no_guide_is_behind = other_is_behind (answer_status NoSuchGuide) (answer_text NoSuchGuide) tt (λ e. cc) refl
+pub no_guide_no_fetch : (s : Subject) (c : Cause) → answer_text NoSuchGuide ≡ answer_text (Refused s c) → ⊥
+no_guide_no_fetch s c e = no_refusal (answer_text NoSuchGuide) s c refl e
 
 pub not_built_is_behind : IsBehind (answer_status (Refused Words cause.NotBuilt)) (answer_text (Refused Words cause.NotBuilt))
 not_built_is_behind = refusal Words cause.NotBuilt tt
 
 pub checks_is_behind : (g : GroundTask) (status : Status) (text : List ℕ) → Checks g (Answers status text) → IsBehind status text
-checks_is_behind g status text e = answers_are status done.Ok text _ e (other_is_behind done.Ok _ tt (λ e. cc) refl)
+checks_is_behind g status text e = answers_are status done.Ok text _ e (other_is_behind done.Ok _ tt (λ e. cc) (λ e. cc) refl)
 
 pub told_is_behind : (g : GroundTask) (d : ℕ) (a : Found) (status : Status) (text : List ℕ) → Answers status text ≡ told g d a → IsBehind status text
-told_is_behind g d (found.Shortest p) status text e = answers_are status done.Ok text _ e (other_is_behind done.Ok _ tt (λ e. cc) refl)
-told_is_behind g d (found.Found p) status text e = answers_are status done.Ok text _ e (other_is_behind done.Ok _ tt (λ e. cc) refl)
-told_is_behind g d found.NoneTo status text e = answers_are status done.No text _ e (other_is_behind done.No _ tt (λ e. cc) refl)
-told_is_behind g d found.ManyStates status text e = answers_are status done.Undecided text _ e (other_is_behind done.Undecided _ tt (λ e. cc) refl)
-told_is_behind g d (found.Wide p) status text e = answers_are status done.Undecided text _ e (other_is_behind done.Undecided _ tt (λ e. cc) refl)
+told_is_behind g d (found.Shortest p) status text e = answers_are status done.Ok text _ e (other_is_behind done.Ok _ tt (λ e. cc) (λ e. cc) refl)
+told_is_behind g d (found.Found p) status text e = answers_are status done.Ok text _ e (other_is_behind done.Ok _ tt (λ e. cc) (λ e. cc) refl)
+told_is_behind g d found.NoneTo status text e = answers_are status done.No text _ e (other_is_behind done.No _ tt (λ e. cc) (λ e. cc) refl)
+told_is_behind g d found.ManyStates status text e = answers_are status done.Undecided text _ e (other_is_behind done.Undecided _ tt (λ e. cc) (λ e. cc) refl)
+told_is_behind g d (found.Wide p) status text e = answers_are status done.Undecided text _ e (other_is_behind done.Undecided _ tt (λ e. cc) (λ e. cc) refl)

@@ -104,3 +104,12 @@ abbrev pub Names : List (List ℕ) → Command → Subject → List ℕ → Type
 Names words (Plan bounds guide first) Task name = name ≡ word_at words 1
 Names words Check Task name = name ≡ word_at words 1
 Names words command subject name = ⊥
+
+-- the command asks for a guide that is not there
+abbrev pub LacksGuide : ℕ → Command → Type 0
+LacksGuide guides (Plan bounds guide first) = guides ≤ guide
+LacksGuide guides command = ⊥
+
+-- the words are those of no command, or of one that asks for a guide that is not there
+abbrev pub Misuses : List (List ℕ) → ℕ → Type 0
+Misuses words guides = ((command : Command) → IsCommand words command → ⊥) ⊎ ((command : Command) × IsCommand words command × LacksGuide guides command)

@@ -35,14 +35,18 @@ abbrev pub IsFetched : LibraryState → List ℕ → List ℕ → Type 0
 IsFetched library name bytes = (length bytes ≤ file_limit) × IfSome library.held (λ files. file_of files name ≡ Some bytes)
 
 -- the work on a library ends so, or memory is wanting
+abbrev pub StopsAnswer : (FileMap → Outcome → Type 0) → (Subject → List ℕ → Type 0) → Type 0 → LibraryState → LibraryState → Stop → Type 0
+StopsAnswer work names misuse old new (Told answer) = IsAnswerOf work names misuse old new (answer_status answer) (answer_text answer)
+StopsAnswer work names misuse old new OutOfMemory = ⊤
+
+-- the same where no words are misused
 abbrev pub StopsWork : (FileMap → Outcome → Type 0) → (Subject → List ℕ → Type 0) → LibraryState → LibraryState → Stop → Type 0
-StopsWork work names old new (Told answer) = IsAnswerOf work names old new (answer_status answer) (answer_text answer)
-StopsWork work names old new OutOfMemory = ⊤
+StopsWork work names = StopsAnswer work names ⊥
 
 -- the answer of the work, whether it comes at the end or before it
-abbrev pub Serves : (FileMap → Outcome → Type 0) → (Subject → List ℕ → Type 0) → LibraryState → LibraryState → Result Answer Stop → Type 0
-Serves work names old new result =
-    MatchResult result (λ answer. IsAnswerOf work names old new (answer_status answer) (answer_text answer)) (StopsWork work names old new)
+abbrev pub Serves : (FileMap → Outcome → Type 0) → (Subject → List ℕ → Type 0) → Type 0 → LibraryState → LibraryState → Result Answer Stop → Type 0
+Serves work names misuse old new result =
+    MatchResult result (λ answer. IsAnswerOf work names misuse old new (answer_status answer) (answer_text answer)) (StopsAnswer work names misuse old new)
 
 -- the work ends at the fetch
 abbrev pub StopsAtFetch : LibraryState → LibraryState → Subject → List ℕ → Stop → Type 0

@@ -42,7 +42,7 @@ fn checked(alloc: Global, task: &Task) -> Result<Answer, OutOfMemory>
 /// The numbers of a task, and its layout.
 pub fn check<L: Library>(alloc: Global, files: &mut L, file: &str) -> Result<Answer, Stop>
     ensures goes_on { GoesOn (L.library files.old) (L.library files.new) }
-    ensures answer { Serves (λ held. TaskFile held file.now Checks) (OnlyFile OfTask file.now) (L.library files.old) (L.library files.new) result }
+    ensures answer { Serves (λ held. TaskFile held file.now Checks) (OnlyFile OfTask file.now) ⊥ (L.library files.old) (L.library files.new) result }
 {
     let task = task_file(alloc, files, file)?;
     let checked = checked(alloc, &task);

@@ -25,8 +25,13 @@ fn copies(alloc: Global, text: &str, count: u32) -> Result<String, Fail> {
 }
 
 // The task with these objects, fluents, actions and goal, and one world.
-fn task(alloc: Global, parts: [&str; 4]) -> Result<String, Fail> {
-    let [objects, fluents, actions, goal] = parts;
+fn task(
+    alloc: Global,
+    objects: &str,
+    fluents: &str,
+    actions: &str,
+    goal: &str,
+) -> Result<String, Fail> {
     Ok(format!(in alloc;
         "task t; types {{ a < object; b < object; }} objects {{ {objects} }} fluents {{ p; {fluents} }}
 init {{ world o {{ }} designated {{ o }} }} {actions}
@@ -60,7 +65,7 @@ fn objects_and_agents(rt: HostRuntime) -> Result<(), Fail> {
         let things = names(alloc, "o", others)?;
         let kind = if agents == 0 { "" } else { " : agent;" };
         let objects = format!(in alloc; "{people}{kind} {things} : object;")?;
-        let task = task(alloc, [objects.as_str(), "", "", "true"])?;
+        let task = task(alloc, objects.as_str(), "", "", "true")?;
         answers(&rt, alloc, task.as_bytes(), status, text)?;
     }
     Ok(())
@@ -75,7 +80,7 @@ fn atoms(rt: HostRuntime) -> Result<(), Fail> {
     ];
     for (count, status, text) in rows {
         let fluents = copies(alloc, "f", count)?;
-        let task = task(alloc, ["ann : agent;", fluents.as_str(), "", "true"])?;
+        let task = task(alloc, "ann : agent;", fluents.as_str(), "", "true")?;
         answers(&rt, alloc, task.as_bytes(), status, text)?;
     }
     Ok(())
@@ -120,7 +125,7 @@ fn actions(rt: HostRuntime) -> Result<(), Fail> {
     for (others, actions, fluents, status, text) in rows {
         let things = names(alloc, "o", others)?;
         let objects = format!(in alloc; "ann : agent; {things} : object;")?;
-        let task = task(alloc, [objects.as_str(), fluents, actions, "true"])?;
+        let task = task(alloc, objects.as_str(), fluents, actions, "true")?;
         answers(&rt, alloc, task.as_bytes(), status, text)?;
     }
     Ok(())
@@ -139,7 +144,7 @@ fn events(rt: HostRuntime) -> Result<(), Fail> {
             events.push_str(format!(in alloc; "event e{number} pre true {{ }} ")?.as_str())?;
         }
         let action = format!(in alloc; "action many {{ {events} designated {{ e0 }} }}")?;
-        let task = task(alloc, ["ann : agent;", "", action.as_str(), "true"])?;
+        let task = task(alloc, "ann : agent;", "", action.as_str(), "true")?;
         answers(&rt, alloc, task.as_bytes(), status, text)?;
     }
     Ok(())
@@ -163,7 +168,7 @@ fn nodes(rt: HostRuntime) -> Result<(), Fail> {
     ];
     for (not, status, text) in rows {
         let goal = format!(in alloc; "{not}{formula}")?;
-        let task = task(alloc, [objects.as_str(), "", "", goal.as_str()])?;
+        let task = task(alloc, objects.as_str(), "", "", goal.as_str())?;
         answers(&rt, alloc, task.as_bytes(), status, text)?;
     }
     Ok(())

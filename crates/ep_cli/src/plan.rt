@@ -1,5 +1,5 @@
 // `plan FILE` and its options.
-ghost use Rattle.std.specs.Prelude.{◌≡◌, ◌<◌, IfOk, length};
+ghost use Rattle.std.specs.Prelude.{◌≡◌, ◌<◌, ◌≤◌, IfOk, length};
 ghost use Rattle.ep_search.specs.Allowed.{Allowed};
 ghost use Rattle.ep_search.specs.Limits.{IsBounds};
 ghost use Rattle.ep_cli.specs.Commands.{Guided, HasItsActions, Plans, mode_of, search_bounds, told};
@@ -116,7 +116,7 @@ fn plan<L: Library>(
 ) -> Result<Answer, Stop>
     requires { IsBounds (search_bounds bounds) }
     ensures goes_on { GoesOn (L.library files.old) (L.library files.new) }
-    ensures answer { Serves (λ held. TaskFile held file.now (Plans bounds first)) (OnlyFile OfTask file.now) (L.library files.old) (L.library files.new) result }
+    ensures answer { Serves (λ held. TaskFile held file.now (Plans bounds first)) (OnlyFile OfTask file.now) ⊥ (L.library files.old) (L.library files.new) result }
 {
     let task = task_file(alloc, files, file)?;
     let answered = answered(alloc, &task, bounds, first, guide);
@@ -137,7 +137,7 @@ pub fn guided<L: Library>(
 ) -> Result<Answer, Stop>
     requires { IsBounds (search_bounds bounds) }
     ensures goes_on { GoesOn (L.library files.old) (L.library files.new) }
-    ensures answer { Serves (λ held. Guided (length guides.old.items) place (TaskFile held file.now (Plans bounds first))) (OnlyFile OfTask file.now) (L.library files.old) (L.library files.new) result }
+    ensures answer { Serves (λ held. Guided (length guides.old.items) place (TaskFile held file.now (Plans bounds first))) (OnlyFile OfTask file.now) (length guides.old.items ≤ place) (L.library files.old) (L.library files.new) result }
 {
     if place >= guides.len() {
         return Ok(Answer::NoSuchGuide);

@@ -1,11 +1,11 @@
 -- What a command answers its words answer.
-use Rattle.ep_cli.proofs.Lift.{IsAnswer-command}
+use Rattle.ep_cli.proofs.Lift.{IsAnswer-command, misused_is_answer}
 use Rattle.ep_cli.proofs.top.respond.Goals as goal
 
 pub returns-in-Ok-serve-clause-answer : goal.returns-in-Ok-serve-clause-answer
-returns-in-Ok-serve-clause-answer g c = IsAnswer-command _ _ c.in-Ok.command _ _ _ _ c.in-Ok.ensures.command c.in-Ok-serve.ensures.answer
+returns-in-Ok-serve-clause-answer g c = IsAnswer-command _ _ c.in-Ok.command _ _ _ _ c.in-Ok.ensures.command c.in-Ok.ensures.only c.in-Ok-serve.ensures.answer
 
 pub returns-in-Err-Told-clause-answer : goal.returns-in-Err-Told-clause-answer
 returns-in-Err-Told-clause-answer g c =
     let told = rw c.in-Err-Told.field-0-is at c.in-Err-Told.ensures.answer in
-    IsAnswer-command _ _ c.in-Ok.command _ _ _ _ c.in-Ok.ensures.command told
+    IsAnswer-command _ _ c.in-Ok.command _ _ _ _ c.in-Ok.ensures.command c.in-Ok.ensures.only told

@@ -26,15 +26,24 @@ fn worlds_of(init: &InitTree) -> Option<&[WorldTree]> {
     }
 }
 
-#[test]
-fn names_of_objects(rt: HostRuntime) -> Result<(), Fail> {
-    let typed = typed(&rt, rt.alloc(), FAMILY)?;
-    let names = object_names(rt.alloc(), &typed)?;
+// Frees a task in a function of its own, so that no test's proof has its many parts.
+fn discard(_typed: Typed) {}
+
+fn has_names(rt: &impl Abort, alloc: Global, typed: &Typed) -> Result<(), Fail> {
+    let names = object_names(alloc, typed)?;
     assert_eq!(rt; names.as_slice().len(), 3);
     for (name, text) in names.as_slice().iter().zip(["ann", "bob", "kid"]) {
         assert_eq!(rt; name.as_slice(), text.as_bytes());
     }
     Ok(())
+}
+
+#[test]
+fn names_of_objects(rt: HostRuntime) -> Result<(), Fail> {
+    let typed = typed(&rt, rt.alloc(), FAMILY)?;
+    let held = has_names(&rt, rt.alloc(), &typed);
+    discard(typed);
+    held
 }
 
 // A task with so many worlds.
@@ -50,14 +59,21 @@ fn worlds(alloc: Global, count: u32) -> Result<String, Fail> {
     Ok(text)
 }
 
+fn has_worlds(rt: &impl Abort, typed: &Typed, most: bool) -> Result<(), Fail> {
+    let judged = check_worlds(worlds_of(&typed.tree().init).ok_or("no worlds")?);
+    assert_eq!(rt; judged.is_ok(), most);
+    assert!(rt; most || matches!(judged, Err(GroundError::TooManyWorlds { count: 257 })));
+    Ok(())
+}
+
 #[test]
 fn most_worlds(rt: HostRuntime) -> Result<(), Fail> {
     for (count, most) in [(1, true), (256, true), (257, false)] {
         let text = worlds(rt.alloc(), count)?;
         let typed = typed(&rt, rt.alloc(), text.as_str())?;
-        let judged = check_worlds(worlds_of(&typed.tree().init).ok_or("no worlds")?);
-        assert_eq!(rt; judged.is_ok(), most);
-        assert!(rt; most || matches!(judged, Err(GroundError::TooManyWorlds { count: 257 })));
+        let held = has_worlds(&rt, &typed, most);
+        discard(typed);
+        held?;
     }
     Ok(())
 }

@@ -43,13 +43,13 @@ fn form(
     Ok(ground_formula(alloc, universe, &tree))
 }
 
-// A parameter takes the objects of its type and of those below it.
-#[test]
-fn objects_of_subtypes(rt: HostRuntime) -> Result<(), Fail> {
-    let typed = typed(&rt, rt.alloc(), FAMILY)?;
+// Frees a task in a function of its own, so that no test's proof has its many parts.
+fn discard(_typed: Typed) {}
+
+fn has_candidates(rt: &impl Abort, alloc: Global, typed: &Typed) -> Result<(), Fail> {
     assert!(rt; typed.object_count() <= 64);
     let schema = typed.tree().schemas.as_slice().first().ok_or("no schema")?;
-    let lists = candidates(rt.alloc(), &typed, schema.params.as_slice())?;
+    let lists = candidates(alloc, typed, schema.params.as_slice())?;
     let rows: [&[u32]; 3] = [&[0, 1], &[1], &[0, 1, 2]];
     for (list, row) in lists.as_slice().iter().zip(rows) {
         assert_eq!(rt; list.as_slice(), row);
@@ -57,11 +57,18 @@ fn objects_of_subtypes(rt: HostRuntime) -> Result<(), Fail> {
     Ok(())
 }
 
+// A parameter takes the objects of its type and of those below it.
 #[test]
-fn order_of_ground_atoms(rt: HostRuntime) -> Result<(), Fail> {
+fn objects_of_subtypes(rt: HostRuntime) -> Result<(), Fail> {
     let typed = typed(&rt, rt.alloc(), FAMILY)?;
+    let held = has_candidates(&rt, rt.alloc(), &typed);
+    discard(typed);
+    held
+}
+
+fn has_atoms(rt: &impl Abort, alloc: Global, typed: &Typed) -> Result<(), Fail> {
     assert!(rt; typed.object_count() <= 64);
-    let atoms = atoms_of(rt.alloc(), &typed)?;
+    let atoms = atoms_of(alloc, typed)?;
     let rows: [(usize, &[u32]); 8] = [
         (0, &[]),
         (1, &[1]),
@@ -80,39 +87,55 @@ fn order_of_ground_atoms(rt: HostRuntime) -> Result<(), Fail> {
     Ok(())
 }
 
-// Over no binding a quantifier is a constant, and over one binding the one instance.
 #[test]
-fn quantifiers_over_few(rt: HostRuntime) -> Result<(), Fail> {
+fn order_of_ground_atoms(rt: HostRuntime) -> Result<(), Fail> {
     let typed = typed(&rt, rt.alloc(), FAMILY)?;
-    let universe = universe(&rt, rt.alloc(), &typed)?;
-    let none = form(&rt, rt.alloc(), &universe, "exists (g : ghost) p")??;
+    let held = has_atoms(&rt, rt.alloc(), &typed);
+    discard(typed);
+    held
+}
+
+// Over no binding a quantifier is a constant, and over one binding the one instance.
+fn has_quantifiers(rt: &impl Abort, alloc: Global, universe: &Universe) -> Result<(), Fail> {
+    let none = form(rt, alloc, universe, "exists (g : ghost) p")??;
     assert!(rt; matches!(none.node(), Node::False));
-    let all = form(&rt, rt.alloc(), &universe, "forall (g : ghost) p")??;
+    let all = form(rt, alloc, universe, "forall (g : ghost) p")??;
     assert!(rt; matches!(all.node(), Node::True));
-    let one = form(&rt, rt.alloc(), &universe, "exists (c : child) (wet(c))")??;
+    let one = form(rt, alloc, universe, "exists (c : child) (wet(c))")??;
     assert!(rt; matches!(one.node(), Node::Atom(AtomId { n: 1 })));
     Ok(())
 }
 
-#[test]
-fn agents_and_groups(rt: HostRuntime) -> Result<(), Fail> {
-    let typed = typed(&rt, rt.alloc(), FAMILY)?;
-    let universe = universe(&rt, rt.alloc(), &typed)?;
-    let knows = form(&rt, rt.alloc(), &universe, "knows kid likes(kid, rex)")??;
+fn has_groups(rt: &impl Abort, alloc: Global, universe: &Universe) -> Result<(), Fail> {
+    let knows = form(rt, alloc, universe, "knows kid likes(kid, rex)")??;
     assert!(rt; matches!(knows.node(), Node::Knows(AgentId { n: 1 }, _)));
-    let common = form(&rt, rt.alloc(), &universe, "common { kid } (ann = kid)")??;
+    let common = form(rt, alloc, universe, "common { kid } (ann = kid)")??;
     let Node::Common(group, inner) = common.node() else {
         return Err("no group".into());
     };
     assert!(rt; group.has(AgentId { n: 1 }) && !group.has(AgentId { n: 0 }));
     assert!(rt; matches!(inner.get(), Node::False));
-    let fault = form(&rt, rt.alloc(), &universe, "knows rex p")?.err();
+    let fault = form(rt, alloc, universe, "knows rex p")?.err();
     let wanted = FormulaFault::Typing {
         fault: TypeFault::NotAgent,
         token: 1,
     };
     assert_eq!(rt; fault, Some(wanted));
     Ok(())
+}
+
+fn has_family(rt: &impl Abort, alloc: Global, typed: &Typed) -> Result<(), Fail> {
+    let universe = universe(rt, alloc, typed)?;
+    has_quantifiers(rt, alloc, &universe)?;
+    has_groups(rt, alloc, &universe)
+}
+
+#[test]
+fn formulas_of_a_family(rt: HostRuntime) -> Result<(), Fail> {
+    let typed = typed(&rt, rt.alloc(), FAMILY)?;
+    let held = has_family(&rt, rt.alloc(), &typed);
+    discard(typed);
+    held
 }
 
 const LARGE: &str = "task large; types { big < object; small < big; } objects { ann : agent; \
@@ -122,17 +145,27 @@ const LARGE: &str = "task large; types { big < object; small < big; } objects { 
 const MOST: &str = "forall (a : small) forall (b : big) forall (c : big) forall (d : big) p";
 
 // 1 + 15 * (1 + 16 * (1 + 16 * (1 + 16))) nodes, and one more.
+fn has_most_nodes(rt: &impl Abort, alloc: Global, universe: &Universe) -> Result<(), Fail> {
+    let most = form(rt, alloc, universe, MOST)??;
+    assert_eq!(rt; most.nodes(), 65_536);
+    assert_eq!(rt; most.depth(), 5);
+    let text = format!(in alloc; "not {MOST}")?;
+    let more = form(rt, alloc, universe, text.as_str())?.err();
+    assert_eq!(rt; more, Some(FormulaFault::TooLarge { token: 0 }));
+    Ok(())
+}
+
+fn has_large(rt: &impl Abort, alloc: Global, typed: &Typed) -> Result<(), Fail> {
+    let universe = universe(rt, alloc, typed)?;
+    has_most_nodes(rt, alloc, &universe)
+}
+
 #[test]
 fn most_nodes(rt: HostRuntime) -> Result<(), Fail> {
     let typed = typed(&rt, rt.alloc(), LARGE)?;
-    let universe = universe(&rt, rt.alloc(), &typed)?;
-    let most = form(&rt, rt.alloc(), &universe, MOST)??;
-    assert_eq!(rt; most.nodes(), 65_536);
-    assert_eq!(rt; most.depth(), 5);
-    let text = format!(in rt.alloc(); "not {MOST}")?;
-    let more = form(&rt, rt.alloc(), &universe, text.as_str())?.err();
-    assert_eq!(rt; more, Some(FormulaFault::TooLarge { token: 0 }));
-    Ok(())
+    let held = has_large(&rt, rt.alloc(), &typed);
+    discard(typed);
+    held
 }
 
 const MANY: &str = " task many; objects { ann : agent; o1, o2, o3, o4, o5, o6, o7, o8, o9, o10, \
@@ -143,11 +176,17 @@ const MANY: &str = " task many; objects { ann : agent; o1, o2, o3, o4, o5, o6, o
     } designated { o } } goal true;";
 
 // 64 objects at each of six places, told before any atom is made.
+fn has_many_atoms(rt: &impl Abort, alloc: Global, typed: &Typed) -> Result<(), Fail> {
+    let fluents = typed.tree().fluents.as_slice().len();
+    assert!(rt; typed.object_count() <= 64 && fluents <= 262_144);
+    assert_eq!(rt; atom_count(alloc, typed)?, 68_719_476_737);
+    Ok(())
+}
+
 #[test]
 fn count_of_many_atoms(rt: HostRuntime) -> Result<(), Fail> {
     let typed = typed(&rt, rt.alloc(), MANY)?;
-    let fluents = typed.tree().fluents.as_slice().len();
-    assert!(rt; typed.object_count() <= 64 && fluents <= 262_144);
-    assert_eq!(rt; atom_count(rt.alloc(), &typed)?, 68_719_476_737);
-    Ok(())
+    let held = has_many_atoms(&rt, rt.alloc(), &typed);
+    discard(typed);
+    held
 }

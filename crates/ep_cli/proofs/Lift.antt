@@ -23,11 +23,12 @@ use Rattle.ep_cli.specs.declared.answer.Stop.TheVariants.{Told, OutOfMemory}
 use Rattle.ep_cli.specs.declared.cause.Cause.{Cause}
 use Rattle.ep_cli.specs.declared.cause.Cause.TheVariants as cause
 use Rattle.ep_cli.specs.declared.cause.Subject.{Subject}
-use Rattle.ep_cli.specs.declared.cause.Subject.TheVariants.{Words, Task}
+use Rattle.ep_cli.specs.declared.cause.Subject.TheVariants.{Task}
 use Rattle.ep_cli.specs.declared.status.Status.{Status}
 use Rattle.ep_cli.specs.declared.status.Status.TheVariants.{ReadFault}
 use Rattle.ep_cli.specs.Answer.{answer_status, answer_text}
-use Rattle.ep_cli.specs.Commands.{Checks, CommandWork, Guided, LacksGuide, Misuses, Names, Plans, Work, word_at}
+use Rattle.ep_cli.specs.Commands.{CommandWork, Guided, LacksGuide, Misuses, Names, Work, word_at}
+use Rattle.ep_cli.specs.Results.{Checks, Plans}
 use Rattle.ep_cli.specs.Run.{GoesOn, IsAnswerOf, IsAnswer, NamesFile}
 use Rattle.ep_cli.specs.Served.{Outcome, Answers, StopsAt, Sized, Fetched, TaskRead, TaskFile, TellsCause, IsCauseOf, Grounded, answers, place_at}
 use Rattle.ep_cli.specs.Steps.{OnlyFile, IsFetched, IsTaskOf, IsTaskFile, StopsAtFetch, StopsAtTask, Serves, StopsAnswer, StopsBy, StopsWork, nothing_behind}
@@ -68,7 +69,7 @@ IsAnswerOf-held work more names others one other old new status text m f g h = r
   too_long = h.too_long;
 }
 
-all_held : {P : FileMap → Type 0} (held : Option FileMap) → ((files : FileMap) → P files) → IfSome held P
+pub all_held : {P : FileMap → Type 0} (held : Option FileMap) → ((files : FileMap) → P files) → IfSome held P
 all_held None f = tt
 all_held (Some files) f = f files
 
@@ -88,7 +89,7 @@ behind_is_answer work names old new status text b h = record {
   served = λ n. h;
   fault = λ e. absurd (b.no_fault e);
   missing = λ s e. absurd (b.not_missing s e);
-  too_long = λ s e. absurd (b.not_long s e);
+  too_long = λ s f e. absurd (b.not_long s f e);
 }
 
 -- ---- refusals of the reading of a task
@@ -138,7 +139,7 @@ read_is_behind bytes P status text f (inr (inr (found, lexed, inr (inr (tree, re
 -- ---- the ground task of a file
 
 -- the file's bytes are these, and what is read of them is what is read of the file
-file_read : (held : Option FileMap) (s : Subject) (name bytes : List ℕ) (next : List ℕ → Outcome → Type 0) (o : Outcome)
+pub file_read : (held : Option FileMap) (s : Subject) (name bytes : List ℕ) (next : List ℕ → Outcome → Type 0) (o : Outcome)
     → (length bytes ≤ 1048576) × IfSome held (λ files. file_of files name ≡ Some bytes) → next bytes o → IfSome held (λ files. Fetched files s name next o)
 file_read held s name bytes next o fetched h =
     let M : Option (List ℕ) → Type 0 = λ f. MatchOption f (o ≡ answers (Refused s cause.NoSuchFile)) (λ b. Sized s b next o) in
@@ -207,7 +208,7 @@ later work names old mid new status text on h = record {
     },
   );
   missing = λ s e. subst IsSome on.held (h.missing s e);
-  too_long = λ s e. taken_before old.held mid.held on.held (h.too_long s e);
+  too_long = λ s f e. taken_before old.held mid.held on.held (h.too_long s f e);
 }
   where
     since_before : (a b c : ℕ) → a ≤ b → FaultSince b c → FaultSince a c
@@ -244,7 +245,7 @@ serves_no_guide guides place work names library l = record {
   served = λ n. all_held library.held (λ files. inl (l, refl));
   fault = λ e. absurd (no_fault e);
   missing = λ s e. absurd (no_guide_no_fetch s cause.NoSuchFile e);
-  too_long = λ s e. absurd (no_guide_no_fetch s cause.TooLong e);
+  too_long = λ s f e. absurd (no_guide_no_fetch s cause.TooLong e);
 }
   where
     no_fault : answer_status NoSuchGuide ≡ ReadFault → ⊥
@@ -267,12 +268,7 @@ serves_guided guides place work names old new r l h =
     guided_stop OutOfMemory k = k
 
 only_task : (words : List (List ℕ)) (file : List ℕ) → file ≡ word_at words 1 → (s : Subject) (name : List ℕ) → OnlyFile Task file s name → Names words Check s name
-only_task words file e Words name p = let no : Words ≡ Task = p.0 in cc
-only_task words file e Task name p = p.1 ∙ e
-
-plan_names : (words : List (List ℕ)) (b : Bounds) (guide : ℕ) (first : Bool) (s : Subject) (name : List ℕ) → Names words Check s name → Names words (Plan b guide first) s name
-plan_names words b guide first Words name n = n
-plan_names words b guide first Task name n = n
+only_task words file e s name p = subst (λ t. Names words Check t name) (sym p.0) (p.1 ∙ e)
 
 pub serves_check : (words : List (List ℕ)) (guides : ℕ) (file : List ℕ) (old new : LibraryState) (r : Result Answer Stop) → file ≡ word_at words 1
     → Serves (λ files. TaskFile files file Checks) (OnlyFile Task file) ⊥ old new r
@@ -287,7 +283,7 @@ pub serves_plan : (words : List (List ℕ)) (guides : ℕ) (b : Bounds) (guide :
 serves_plan words guides b guide first file old new r k is e h =
     subst (λ (k : Command). Serves (λ files. CommandWork files words guides k) (Names words k) (LacksGuide guides k) old new r) (sym is)
     (Serves-more (λ files. Guided guides guide (TaskFile files file (Plans b first))) (λ files. CommandWork files words guides (Plan b guide first)) (OnlyFile Task file) (Names words (Plan b guide first)) (guides ≤ guide) old new r
-    (λ files o w. subst (λ f. Guided guides guide (TaskFile files f (Plans b first)) o) e w) (λ s name p. plan_names words b guide first s name (only_task words file e s name p)) h)
+    (λ files o w. subst (λ f. Guided guides guide (TaskFile files f (Plans b first)) o) e w) (λ s name p. subst (λ t. Names words (Plan b guide first) t name) (sym p.0) (p.1 ∙ e)) h)
 
 -- ---- the words
 
@@ -316,7 +312,7 @@ misused_is_answer words guides library none = record {
   served = λ n. all_held library.held (λ files. inl (none, refl));
   fault = λ e. absurd (no_fault e);
   missing = λ s e. absurd (usage_no_fetch s cause.NoSuchFile e);
-  too_long = λ s e. absurd (usage_no_fetch s cause.TooLong e);
+  too_long = λ s f e. absurd (usage_no_fetch s cause.TooLong e);
 }
   where
     no_fault : answer_status Misused ≡ ReadFault → ⊥

@@ -14,8 +14,9 @@ use Rattle.ep_search.specs.declared.answer.Mode.{Mode}
 use Rattle.ep_words.specs.declared.command.Bounds.{Bounds}
 use Rattle.ep_parts.specs.Task.{GroundTask}
 use Rattle.ep_cli.specs.declared.status.Status.{Status}
-use Rattle.ep_cli.specs.Commands.{AreItsActions, HasItsActions, Plans, mode_of, told}
-use Rattle.ep_cli.specs.Served.{Answers, Outcome}
+use Rattle.ep_cli.specs.declared.answer.Answer.TheVariants.{OfSearch}
+use Rattle.ep_cli.specs.Results.{AreItsActions, HasItsActions, Plans, mode_of, planned_of}
+use Rattle.ep_cli.specs.Served.{Answers, Outcome, answers}
 use Rattle.ep_cli.proofs.Told.{IsBehind, told_is_behind}
 
 -- ---- the actions of a plan that leaves a state
@@ -53,7 +54,7 @@ allowed_has_actions g d n w m (found.Wide p) e h = actions_of_plan g p h.within.
 -- ---- answers of planning
 
 pub plans_by : (bounds : Bounds) (first : Bool) (g : GroundTask) (m : Mode) (a : Found) (o : Outcome) → m ≡ mode_of first
-    → Allowed g.problem bounds.depth bounds.states bounds.worlds m a → o ≡ told g bounds.depth a → Plans bounds first g o
+    → Allowed g.problem bounds.depth bounds.states bounds.worlds m a → o ≡ answers (OfSearch (planned_of g bounds.depth a)) → Plans bounds first g o
 unfolding Plans
 plans_by bounds first g m a o e h is = (a, subst (λ m. Allowed g.problem bounds.depth bounds.states bounds.worlds m a) e h, is)
 

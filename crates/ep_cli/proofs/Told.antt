@@ -1,21 +1,34 @@
 -- What is told behind a fetch is not what a fetch tells.
-use Rattle.std.proofs.Common.{sym, subst, ◌∙◌, append_assoc, codes, ◌≡◌, ◌≢◌, ℕ, List, [], ◌∷◌, ◌++◌, Bool, false, true, not, ◌==◌, drop, get_or, eqb, refl, ap, arith, rules}
+use Rattle.std.proofs.Common.{sym, subst, ◌∙◌, append_assoc, codes, ◌≡◌, ◌≢◌, ℕ, List, [], ◌∷◌, ◌++◌, Bool, false, true, not, ◌==◌, drop, get_or, eqb, refl, ap, inl, inr, arith, rules}
 use Rattle.std.specs.Bool.{⊤}
 use Rattle.std.specs.List.{list_all}
 use Rattle.ep_search.specs.declared.answer.Answer.{Answer as Found}
 use Rattle.ep_search.specs.declared.answer.Answer.TheVariants as found
 use Rattle.ep_types.specs.declared.fault.TypeFault.TheVariants as type_fault
+use Rattle.ep_logic.specs.declared.formula.Node.{Node}
+use Rattle.ep_logic.specs.declared.ids.ActionId.{ActionId}
+use Rattle.ep_theory.specs.Kripke.{Kripke}
+use Rattle.ep_plan.specs.declared.verdicts.Verdict.{Verdict}
+use Rattle.ep_plan.specs.declared.verdicts.Verdict.TheVariants as verdict
 use Rattle.ep_parts.specs.Task.{GroundTask}
 use Rattle.ep_cli.specs.declared.answer.Answer.{Answer}
-use Rattle.ep_cli.specs.declared.answer.Answer.TheVariants.{Refused, Misused, NoSuchGuide}
+use Rattle.ep_cli.specs.declared.answer.Answer.TheVariants.{Refused, Misused, NoSuchGuide, OfSearch, Judged, Stopped}
 use Rattle.ep_cli.specs.declared.cause.Cause.{Cause}
 use Rattle.ep_cli.specs.declared.cause.Cause.TheVariants as cause
 use Rattle.ep_cli.specs.declared.cause.Subject.{Subject}
-use Rattle.ep_cli.specs.declared.cause.Subject.TheVariants.{Words, Task}
+use Rattle.ep_cli.specs.declared.cause.Subject.TheVariants.{Task, Plan, FirstPlan, SecondPlan, Formula}
+use Rattle.ep_cli.specs.declared.planned.Planned.{Planned}
+use Rattle.ep_cli.specs.declared.planned.Planned.TheVariants as planned
+use Rattle.ep_cli.specs.declared.run_stop.RunStop.{RunStop}
+use Rattle.ep_cli.specs.declared.run_stop.RunStop.TheVariants.{Stuck, SpentWorlds, SpentLinks}
+use Rattle.ep_cli.specs.declared.run_stop.Whose.{Whose}
+use Rattle.ep_cli.specs.declared.trial_text.TrialEnd.{TrialEnd}
+use Rattle.ep_cli.specs.declared.trial_text.TrialEnd.TheVariants.{Solved, Open}
 use Rattle.ep_cli.specs.declared.status.Status.{Status}
 use Rattle.ep_cli.specs.declared.status.Status.TheVariants as done
-use Rattle.ep_cli.specs.Answer.{answer_text, answer_status, subject_text, cause_text}
-use Rattle.ep_cli.specs.Commands.{Checks, told}
+use Rattle.ep_cli.specs.Answer.{answer_text, answer_status, subject_text, cause_text, planned_status, end_status}
+use Rattle.ep_cli.specs.Results.{Checks, Compares, Evaluates, Shows, ShowsContraction, Tries, Validates, planned_of}
+use Rattle.ep_cli.specs.Run.{IsOfFile}
 use Rattle.ep_cli.specs.Served.{Answers, answers}
 use Rattle.ep_cli.specs.Status.{IsWritten}
 
@@ -25,7 +38,7 @@ pub record IsBehind (status : Status) (text : List ℕ) : Type 0 where
   pub no_fault : status ≢ done.ReadFault
   pub no_usage : status ≢ done.Usage
   pub not_missing : (s : Subject) → text ≡ answer_text (Refused s cause.NoSuchFile) → ⊥
-  pub not_long : (s : Subject) → text ≡ answer_text (Refused s cause.TooLong) → ⊥
+  pub not_long : (s : Subject) → IsOfFile s → text ≡ answer_text (Refused s cause.TooLong) → ⊥
 
 -- ---- texts that differ at a byte
 
@@ -61,7 +74,9 @@ IsBehindFetch (cause.AtomTwice name) = ⊤
 IsBehindFetch (cause.TooManyVaried n) = ⊤
 IsBehindFetch (cause.TooManyWorlds n) = ⊤
 IsBehindFetch cause.NoDesignated = ⊤
-IsBehindFetch cause.NotBuilt = ⊤
+IsBehindFetch cause.OtherTask = ⊤
+IsBehindFetch (cause.UnknownAction line) = ⊤
+IsBehindFetch cause.WrongCount = ⊤
 
 abbrev line : Cause → List ℕ
 line cause = cause_text cause ++ 10 ∷ []
@@ -93,7 +108,9 @@ cause_not_missing (cause.AtomTwice name) b e = differ 0 _ _ refl e
 cause_not_missing (cause.TooManyVaried n) b e = differ 0 _ _ refl e
 cause_not_missing (cause.TooManyWorlds n) b e = differ 0 _ _ refl e
 cause_not_missing cause.NoDesignated b e = differ 3 _ _ refl e
-cause_not_missing cause.NotBuilt b e = differ 2 _ _ refl e
+cause_not_missing cause.OtherTask b e = differ 0 _ _ refl e
+cause_not_missing (cause.UnknownAction line) b e = differ 0 _ _ refl e
+cause_not_missing cause.WrongCount b e = differ 0 _ _ refl e
 
 cause_not_long : (c : Cause) → IsBehindFetch c → line c ≡ line cause.TooLong → ⊥
 cause_not_long cause.NoSuchFile b e = absurd b
@@ -122,7 +139,9 @@ cause_not_long (cause.AtomTwice name) b e = differ 0 _ _ refl e
 cause_not_long (cause.TooManyVaried n) b e = differ 4 _ _ refl e
 cause_not_long (cause.TooManyWorlds n) b e = differ 4 _ _ refl e
 cause_not_long cause.NoDesignated b e = differ 0 _ _ refl e
-cause_not_long cause.NotBuilt b e = differ 0 _ _ refl e
+cause_not_long cause.OtherTask b e = differ 0 _ _ refl e
+cause_not_long (cause.UnknownAction line) b e = differ 0 _ _ refl e
+cause_not_long cause.WrongCount b e = differ 0 _ _ refl e
 
 -- ---- refusals with the same text
 
@@ -137,8 +156,11 @@ behind_colon (c ∷ a) [] x y p q e = let h : c ≡ 58 = ap (λ l. get_or l 0 0)
 behind_colon (c ∷ a) (d ∷ b) x y p q e = behind_colon a b x y (grind (rules, p)) (grind (rules, q)) (ap (drop 1) e)
 
 no_colon : (s : Subject) → list_all is_no_colon (subject_text s) ≡ true
-no_colon Words = refl
 no_colon Task = refl
+no_colon Plan = refl
+no_colon FirstPlan = refl
+no_colon SecondPlan = refl
+no_colon Formula = refl
 
 behind_refused : (s : Subject) (c : Cause) → drop 9 (answer_text (Refused s c)) ≡ subject_text s ++ 58 ∷ 32 ∷ line c
 behind_refused s c = append_assoc (subject_text s ++ codes ": ") (cause_text c) (10 ∷ []) ∙ append_assoc (subject_text s) (codes ": ") (line c)
@@ -155,7 +177,7 @@ refusal s c b = record {
   no_fault = λ e. cc;
   no_usage = λ e. cc;
   not_missing = λ t e. cause_not_missing c b (same_cause s t c cause.NoSuchFile e);
-  not_long = λ t e. cause_not_long c b (same_cause s t c cause.TooLong e);
+  not_long = λ t f e. cause_not_long c b (same_cause s t c cause.TooLong e);
 }
 
 pub refusal_is_behind : (status : Status) (text : List ℕ) (s : Subject) (c : Cause) → IsBehindFetch c → Answers status text ≡ answers (Refused s c) → IsBehind status text
@@ -171,7 +193,7 @@ other_is_behind status text w n u d = record {
   no_fault = n;
   no_usage = u;
   not_missing = λ s e. no_refusal text s cause.NoSuchFile d e;
-  not_long = λ s e. no_refusal text s cause.TooLong d e;
+  not_long = λ s f e. no_refusal text s cause.TooLong d e;
 }
 
 answers_are : (status other : Status) (text told : List ℕ) → Answers status text ≡ Answers other told → IsBehind other told → IsBehind status text
@@ -187,15 +209,84 @@ usage_no_fetch s c e = no_refusal (answer_text Misused) s c refl e
 pub no_guide_no_fetch : (s : Subject) (c : Cause) → answer_text NoSuchGuide ≡ answer_text (Refused s c) → ⊥
 no_guide_no_fetch s c e = no_refusal (answer_text NoSuchGuide) s c refl e
 
-pub not_built_is_behind : IsBehind (answer_status (Refused Words cause.NotBuilt)) (answer_text (Refused Words cause.NotBuilt))
-not_built_is_behind = refusal Words cause.NotBuilt tt
+-- ---- a formula that is too long
+
+formula_not_file : (s : Subject) → IsOfFile s → answer_text (Refused Formula cause.TooLong) ≡ answer_text (Refused s cause.TooLong) → ⊥
+formula_not_file Task f e = differ 9 _ _ refl e
+formula_not_file Plan f e = differ 9 _ _ refl e
+formula_not_file FirstPlan f e = differ 10 _ _ refl e
+formula_not_file SecondPlan f e = differ 9 _ _ refl e
+formula_not_file Formula f e = absurd f
+
+long_formula : IsBehind (answer_status (Refused Formula cause.TooLong)) (answer_text (Refused Formula cause.TooLong))
+long_formula = record {
+  written = tt;
+  no_fault = λ e. cc;
+  no_usage = λ e. cc;
+  not_missing = λ t e. differ 0 (line cause.TooLong) (line cause.NoSuchFile) refl (same_cause Formula t cause.TooLong cause.NoSuchFile e);
+  not_long = formula_not_file;
+}
+
+pub long_formula_is_behind : (status : Status) (text : List ℕ) → Answers status text ≡ answers (Refused Formula cause.TooLong) → IsBehind status text
+long_formula_is_behind status text e = answers_are status _ text _ e long_formula
+
+-- ---- answers of commands
 
 pub checks_is_behind : (g : GroundTask) (status : Status) (text : List ℕ) → Checks g (Answers status text) → IsBehind status text
 checks_is_behind g status text e = answers_are status done.Ok text _ e (other_is_behind done.Ok _ tt (λ e. cc) (λ e. cc) refl)
 
-pub told_is_behind : (g : GroundTask) (d : ℕ) (a : Found) (status : Status) (text : List ℕ) → Answers status text ≡ told g d a → IsBehind status text
+pub told_is_behind : (g : GroundTask) (d : ℕ) (a : Found) (status : Status) (text : List ℕ) → Answers status text ≡ answers (OfSearch (planned_of g d a)) → IsBehind status text
 told_is_behind g d (found.Shortest p) status text e = answers_are status done.Ok text _ e (other_is_behind done.Ok _ tt (λ e. cc) (λ e. cc) refl)
 told_is_behind g d (found.Found p) status text e = answers_are status done.Ok text _ e (other_is_behind done.Ok _ tt (λ e. cc) (λ e. cc) refl)
 told_is_behind g d found.NoneTo status text e = answers_are status done.No text _ e (other_is_behind done.No _ tt (λ e. cc) (λ e. cc) refl)
 told_is_behind g d found.ManyStates status text e = answers_are status done.Undecided text _ e (other_is_behind done.Undecided _ tt (λ e. cc) (λ e. cc) refl)
 told_is_behind g d (found.Wide p) status text e = answers_are status done.Undecided text _ e (other_is_behind done.Undecided _ tt (λ e. cc) (λ e. cc) refl)
+
+pub stopped_is_behind : (whose : Whose) (stop : RunStop) (status : Status) (text : List ℕ) → Answers status text ≡ answers (Stopped whose stop) → IsBehind status text
+stopped_is_behind whose (Stuck k) status text e = answers_are status done.No text _ e (other_is_behind done.No _ tt (λ e. cc) (λ e. cc) refl)
+stopped_is_behind whose (SpentWorlds k n) status text e = answers_are status done.Undecided text _ e (other_is_behind done.Undecided _ tt (λ e. cc) (λ e. cc) refl)
+stopped_is_behind whose (SpentLinks k n) status text e = answers_are status done.Undecided text _ e (other_is_behind done.Undecided _ tt (λ e. cc) (λ e. cc) refl)
+
+judged_is_behind : (v : Verdict) (status : Status) (text : List ℕ) → Answers status text ≡ answers (Judged v) → IsBehind status text
+judged_is_behind verdict.Yes status text e = answers_are status done.Ok text _ e (other_is_behind done.Ok _ tt (λ e. cc) (λ e. cc) refl)
+judged_is_behind (verdict.Inapplicable k) status text e = answers_are status done.No text _ e (other_is_behind done.No _ tt (λ e. cc) (λ e. cc) refl)
+judged_is_behind verdict.GoalFalse status text e = answers_are status done.No text _ e (other_is_behind done.No _ tt (λ e. cc) (λ e. cc) refl)
+judged_is_behind (verdict.SpentWorlds k n) status text e = answers_are status done.Undecided text _ e (other_is_behind done.Undecided _ tt (λ e. cc) (λ e. cc) refl)
+judged_is_behind (verdict.SpentLinks k n) status text e = answers_are status done.Undecided text _ e (other_is_behind done.Undecided _ tt (λ e. cc) (λ e. cc) refl)
+
+pub validates_is_behind : (g : GroundTask) (plan : List ActionId) (status : Status) (text : List ℕ) → Validates g plan (Answers status text) → IsBehind status text
+unfolding Validates
+validates_is_behind g plan status text h = judged_is_behind h.0 status text h.2
+
+pub evaluates_is_behind : (f : Node) (S : Kripke) (status : Status) (text : List ℕ) → Evaluates f S (Answers status text) → IsBehind status text
+evaluates_is_behind f S status text e = answers_are status done.Ok text _ e (other_is_behind done.Ok _ tt (λ e. cc) (λ e. cc) refl)
+
+pub shows_is_behind : (g : GroundTask) (S : Kripke) (status : Status) (text : List ℕ) → Shows g S (Answers status text) → IsBehind status text
+shows_is_behind g S status text e = answers_are status done.Ok text _ e (other_is_behind done.Ok _ tt (λ e. cc) (λ e. cc) refl)
+
+pub contraction_is_behind : (g : GroundTask) (S : Kripke) (status : Status) (text : List ℕ) → ShowsContraction g S (Answers status text) → IsBehind status text
+unfolding ShowsContraction
+contraction_is_behind g S status text h = answers_are status done.Ok text _ h.2 (other_is_behind done.Ok _ tt (λ e. cc) (λ e. cc) refl)
+
+pub compares_is_behind : (S R : Kripke) (status : Status) (text : List ℕ) → Compares S R (Answers status text) → IsBehind status text
+unfolding Compares
+compares_is_behind S R status text (inl h) = answers_are status done.Ok text _ h.1 (other_is_behind done.Ok _ tt (λ e. cc) (λ e. cc) refl)
+compares_is_behind S R status text (inr h) = answers_are status done.No text _ h.1 (other_is_behind done.No _ tt (λ e. cc) (λ e. cc) refl)
+
+-- ---- trials
+
+planned_is_written : (p : Planned) → IsWritten (planned_status p) × (planned_status p ≢ done.ReadFault) × (planned_status p ≢ done.Usage)
+planned_is_written (planned.Plan text) = (tt, (λ e. cc), (λ e. cc))
+planned_is_written (planned.NoneTo d) = (tt, (λ e. cc), (λ e. cc))
+planned_is_written planned.ManyStates = (tt, (λ e. cc), (λ e. cc))
+planned_is_written (planned.WideAfter n text) = (tt, (λ e. cc), (λ e. cc))
+
+end_is_written : (end : TrialEnd) → IsWritten (end_status end) × (end_status end ≢ done.ReadFault) × (end_status end ≢ done.Usage)
+end_is_written (Solved n v) = (tt, (λ e. cc), (λ e. cc))
+end_is_written (Open p) = planned_is_written p
+
+pub tries_is_behind : (n : ℕ) (g : GroundTask) (status : Status) (text : List ℕ) → Tries n g (Answers status text) → IsBehind status text
+unfolding Tries
+tries_is_behind n g status text h =
+    let w = end_is_written h.0.end in
+    answers_are status (end_status h.0.end) text _ h.2 (other_is_behind (end_status h.0.end) _ w.0 w.1 w.2 refl)

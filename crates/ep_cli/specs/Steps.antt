@@ -1,18 +1,30 @@
 -- What a step of the work hands on, or how it ends the work.
-use Rattle.std.specs.Prelude.{◌≡◌, ◌≤◌, ℕ, List, ⊤, length, IfSome, Some, None, Result, MatchResult}
+use Rattle.std.specs.Prelude.{◌≡◌, ◌≢◌, ◌⊎◌, ◌≤◌, ℕ, List, [], ⊤, length, IfSome, Some, None, Result, MatchResult}
 use Rattle.ep_lex.specs.Tokens.{Lexed, spellings}
-use Rattle.ep_syntax.specs.Grammar.{tasks, Reads}
+use Rattle.ep_logic.specs.declared.formula.Node.{Node}
+use Rattle.ep_logic.specs.declared.ids.ActionId.{ActionId}
+use Rattle.ep_theory.specs.Fits.{Fits}
+use Rattle.ep_theory.specs.Kripke.{Kripke}
+use Rattle.ep_syntax.specs.Grammar.{tasks, formulas, Reads}
+use Rattle.ep_syntax.specs.declared.tree.FormulaTree.{FormulaTree}
 use Rattle.ep_syntax.specs.declared.tree.TaskTree.{TaskTree}
 use Rattle.ep_types.specs.Tasks.{HasNoFault, declarations}
+use Rattle.ep_universe.specs.FormulaFaults.{formula_refusal}
 use Rattle.ep_parts.specs.Task.{GroundTask}
 use Rattle.ep_ground.specs.Grounding.{fault_of, task_of}
+use Rattle.ep_plan.specs.Runs.{RunUnder}
+use Rattle.ep_plan.specs.declared.runs.Outcome.TheVariants.{After}
+use Rattle.ep_plan_text.specs.PlanFiles.{IsPlan}
 use Rattle.ep_io.specs.Library.{LibraryState, FileMap, file_of}
 use Rattle.ep_cli.specs.declared.answer.Answer.{Answer}
 use Rattle.ep_cli.specs.declared.answer.Stop.{Stop}
 use Rattle.ep_cli.specs.declared.answer.Stop.TheVariants.{Told, OutOfMemory}
 use Rattle.ep_cli.specs.declared.cause.Subject.{Subject}
-use Rattle.ep_cli.specs.declared.cause.Subject.TheVariants.{Task}
+use Rattle.ep_cli.specs.declared.cause.Subject.TheVariants.{Task, Plan, FirstPlan, SecondPlan}
 use Rattle.ep_cli.specs.Answer.{answer_status, answer_text}
+use Rattle.ep_cli.specs.FormulaWord.{ground_form}
+use Rattle.ep_cli.specs.PlanFile.{NamesPlan, PlanFile, no_plan, run_size}
+use Rattle.ep_cli.specs.Results.{AreItsActions}
 use Rattle.ep_cli.specs.Served.{Outcome, AreLexed, Fetched, TaskFile, answers, file_limit}
 use Rattle.ep_cli.specs.Run.{IsAnswerOf}
 
@@ -20,6 +32,10 @@ use Rattle.ep_cli.specs.Run.{IsAnswerOf}
 abbrev pub StopsBy : (Outcome → Type 0) → Stop → Type 0
 StopsBy work (Told answer) = work (answers answer)
 StopsBy work OutOfMemory = ⊤
+
+-- the work may end with what is told, at the end or before it
+abbrev pub Tells : (Outcome → Type 0) → Result Answer Stop → Type 0
+Tells work result = MatchResult result (λ answer. work (answers answer)) (StopsBy work)
 
 -- nothing stands behind a step
 abbrev pub nothing_behind : {A : Type 0} → A → Outcome → Type 0
@@ -81,3 +97,66 @@ pub record IsTaskFile (library : LibraryState) (name : List ℕ) (g : GroundTask
 -- the work ends before there is a ground task
 abbrev pub StopsAtTask : LibraryState → LibraryState → List ℕ → Stop → Type 0
 StopsAtTask old new name = StopsWork (λ files. TaskFile files name nothing_behind) (OnlyFile Task name) old new
+
+-- ---- plans
+
+abbrev pub OnlyPlan : Subject → List ℕ → Subject → List ℕ → Type 0
+OnlyPlan subject word other_subject name = (other_subject ≡ subject) × NamesPlan word name
+
+-- the plan that bytes are for a task
+pub record IsPlanOf (g : GroundTask) (bytes : List ℕ) (plan : List ActionId) : Type 0 where
+  pub is_plan : IsPlan g bytes plan
+  pub its_actions : AreItsActions g plan
+  pub few : length plan ≤ 262144
+
+-- the plan of a file for a task
+pub record IsPlanFile (library : LibraryState) (name : List ℕ) (g : GroundTask) (plan : List ActionId) : Type 0 where
+  pub bytes : List ℕ
+  pub fetched : IsFetched library name bytes
+  pub is_plan : IsPlan g bytes plan
+
+-- the plan of a word for a task
+pub record IsPlanWord (library : LibraryState) (word : List ℕ) (g : GroundTask) (plan : List ActionId) : Type 0 where
+  pub is_plan : ((word ≡ no_plan) × (plan ≡ [])) ⊎ ((word ≢ no_plan) × IsPlanFile library word g plan)
+  pub its_actions : AreItsActions g plan
+  pub few : length plan ≤ 262144
+
+-- the work ends before there is a plan
+abbrev pub StopsAtPlan : LibraryState → LibraryState → Subject → List ℕ → GroundTask → Stop → Type 0
+StopsAtPlan old new subject word g = StopsWork (λ files. PlanFile files subject word g nothing_behind) (OnlyPlan subject word) old new
+
+-- the state that a plan of the task leaves, within the size of a run
+pub record IsLeft (g : GroundTask) (plan : List ActionId) (S : Kripke) : Type 0 where
+  pub run : RunUnder g.problem plan run_size (After S)
+  pub worlds : S.worlds ≤ 4096
+  pub agents : S.agents ≡ g.problem.initial.agents
+  pub atoms : S.atoms ≡ g.problem.initial.atoms
+  pub named_agents : S.agents ≡ length g.agents
+  pub named_atoms : S.atoms ≡ length g.atoms
+
+-- ---- formulas
+
+-- the ground form of a tree without a fault
+pub record IsFormOf (g : GroundTask) (tree : FormulaTree) (f : Node) : Type 0 where
+  pub sound : formula_refusal (declarations g.tree) tree ≡ None
+  pub whole : f ≡ ground_form g tree
+  pub fits : Fits g.problem.initial f
+
+-- the formula of a text
+pub record IsFormulaOf (g : GroundTask) (text : List ℕ) (f : Node) : Type 0 where
+  pub found : Lexed
+  pub tree : FormulaTree
+  pub lexed : AreLexed text found
+  pub reads : Reads formulas (spellings text found.tokens) tree
+  pub form : IsFormOf g tree f
+
+-- ---- files of commands
+
+abbrev pub TaskAndPlan : List ℕ → List ℕ → Subject → List ℕ → Type 0
+TaskAndPlan file word subject name = OnlyFile Task file subject name ⊎ OnlyPlan Plan word subject name
+
+abbrev pub BothPlans : List ℕ → List ℕ → Subject → List ℕ → Type 0
+BothPlans one two subject name = OnlyPlan FirstPlan one subject name ⊎ OnlyPlan SecondPlan two subject name
+
+abbrev pub TaskAndPlans : List ℕ → List ℕ → List ℕ → Subject → List ℕ → Type 0
+TaskAndPlans file one two subject name = OnlyFile Task file subject name ⊎ BothPlans one two subject name

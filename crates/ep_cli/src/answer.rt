@@ -3,8 +3,12 @@ ghost use Rattle.std.specs.Prelude.{◌≡◌, Some};
 ghost use Rattle.ep_cli.specs.Answer.{counts_text, answer_text, answer_status};
 
 use crate::Status;
-use crate::cause::{Cause, Shown, Subject};
+use crate::cause::{Cause, Shown as Plain, Subject};
+use crate::planned::Planned;
+use crate::run_stop::{Judgement, RunStop, Whose, verdict_status};
+use crate::trial_text::Trial;
 use ep_logic::{OutOfMemory, Text};
+use ep_plan::Verdict;
 use std::fmt;
 
 /// The numbers of a ground task, and of its initial worlds.
@@ -41,14 +45,21 @@ pub enum Answer {
     Unreadable(Subject),
     /// The numbers of a task, and its layout.
     Checked { counts: Counts, layout: Text },
-    /// A text that is made already, of a plan or of a state.
-    Printed(Text),
-    /// No plan has at most so many actions.
-    NoneTo { depth: u32 },
-    /// More states than may be stored lie within the depth.
-    ManyStates,
-    /// So many actions, of which these are the lines, leave a state whose contraction has too many worlds.
-    WideAfter { count: usize, actions: Text },
+    /// An answer of the search.
+    OfSearch(Planned),
+    /// The verdict on a plan.
+    Judged(Verdict),
+    /// The run of a plan stops.
+    Stopped(Whose, RunStop),
+    /// A formula is true at so many of the designated worlds.
+    TrueAt { count: u64, designated: u64 },
+    /// The text of a state.
+    Shown(Text),
+    /// The text of a contraction, and its canonical bytes in hexadecimal.
+    Contraction { state: Text, bytes: String },
+    Bisimilar,
+    Different,
+    Tried(Trial),
 }
 
 impl Answer {
@@ -59,9 +70,13 @@ impl Answer {
             Answer::Refused(..) => Status::Refused,
             Answer::Misused | Answer::NoSuchGuide => Status::Usage,
             Answer::Unreadable(_) => Status::ReadFault,
-            Answer::Checked { .. } | Answer::Printed(_) => Status::Ok,
-            Answer::NoneTo { .. } => Status::No,
-            Answer::ManyStates | Answer::WideAfter { .. } => Status::Undecided,
+            Answer::Checked { .. } | Answer::Shown(_) | Answer::Contraction { .. } => Status::Ok,
+            Answer::OfSearch(planned) => planned.status(),
+            Answer::Judged(verdict) => verdict_status(*verdict),
+            Answer::Stopped(_, stop) => stop.status(),
+            Answer::TrueAt { .. } | Answer::Bisimilar => Status::Ok,
+            Answer::Different => Status::No,
+            Answer::Tried(trial) => trial.end.status(),
         }
     }
 }
@@ -77,15 +92,20 @@ impl fmt::Display for Answer {
             }
             Answer::NoSuchGuide => f.write_str("usage: no such guide\n"),
             Answer::Unreadable(subject) => write!(f, "fault: {subject} cannot be read\n"),
-            Answer::Checked { counts, layout } => write!(f, "{counts}\n{}", Shown(layout)),
-            Answer::Printed(text) => write!(f, "{}", Shown(text)),
-            Answer::NoneTo { depth } => write!(f, "none to {depth}\n"),
-            Answer::ManyStates => f.write_str("undecided: states\n"),
-            Answer::WideAfter { count, actions } => write!(
-                f,
-                "undecided: worlds after {count}\n{}",
-                Shown(actions)
-            ),
+            Answer::Checked { counts, layout } => write!(f, "{counts}\n{}", Plain(layout)),
+            Answer::OfSearch(planned) => write!(f, "{planned}"),
+            Answer::Judged(verdict) => write!(f, "{}\n", Judgement(*verdict)),
+            Answer::Stopped(whose, stop) => write!(f, "{}\n", stop.of(*whose)),
+            Answer::TrueAt { count, designated } => {
+                write!(f, "true at {count} of {designated}\n")
+            }
+            Answer::Shown(state) => write!(f, "{}", Plain(state)),
+            Answer::Contraction { state, bytes } => {
+                write!(f, "{}bytes {bytes}\n", Plain(state))
+            }
+            Answer::Bisimilar => f.write_str("bisimilar\n"),
+            Answer::Different => f.write_str("different\n"),
+            Answer::Tried(trial) => write!(f, "{trial}"),
         }
     }
 }

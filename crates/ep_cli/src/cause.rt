@@ -9,8 +9,11 @@ use std::{fmt, str};
 /// What an answer speaks of.
 #[derive(Clone, Copy, Debug, PartialEq, Eq)]
 pub enum Subject {
-    Words,
     Task,
+    Plan,
+    FirstPlan,
+    SecondPlan,
+    Formula,
 }
 
 impl fmt::Display for Subject {
@@ -18,8 +21,11 @@ impl fmt::Display for Subject {
 
     fn fmt<W: fmt::Write>(&self, f: &mut fmt::Formatter<W>) -> fmt::Result {
         f.write_str(match self {
-            Subject::Words => "words",
             Subject::Task => "task",
+            Subject::Plan => "plan",
+            Subject::FirstPlan => "first plan",
+            Subject::SecondPlan => "second plan",
+            Subject::Formula => "formula",
         })
     }
 }
@@ -79,7 +85,11 @@ pub enum Cause {
     TooManyVaried { count: u64 },
     TooManyWorlds { count: u64 },
     NoDesignated,
-    NotBuilt,
+    /// The plan is one of another task.
+    OtherTask,
+    /// The line of the first call that names no action.
+    UnknownAction { line: u32 },
+    WrongCount,
 }
 
 impl fmt::Display for Cause {
@@ -106,7 +116,9 @@ impl fmt::Display for Cause {
             Cause::TooManyVaried { count } => write!(f, "too many varied atoms: {count}"),
             Cause::TooManyWorlds { count } => write!(f, "too many worlds: {count}"),
             Cause::NoDesignated => f.write_str("no designated world"),
-            Cause::NotBuilt => f.write_str("not built"),
+            Cause::OtherTask => f.write_str("other task"),
+            Cause::UnknownAction { line } => write!(f, "unknown action at line {line}"),
+            Cause::WrongCount => f.write_str("wrong count"),
         }
     }
 }

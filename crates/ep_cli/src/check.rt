@@ -3,7 +3,7 @@ ghost use Rattle.std.specs.Prelude.{◌≡◌, IfOk};
 ghost use Rattle.ep_syntax.specs.Formed.{IsFormedTask};
 ghost use Rattle.ep_syntax.specs.Marks.{IsShallow};
 ghost use Rattle.ep_syntax.specs.Spelling as spell;
-ghost use Rattle.ep_cli.specs.Commands.{Checks, counts_of};
+ghost use Rattle.ep_cli.specs.Results.{Checks, counts_of};
 ghost use Rattle.ep_cli.specs.Run.{GoesOn};
 ghost use Rattle.ep_cli.specs.Served.{TaskFile, answers};
 ghost use Rattle.ep_cli.specs.Steps.{OnlyFile, Serves};

@@ -12,7 +12,8 @@ use std::alloc::Global;
 
 const FILE_LIMIT: u32 = 1_048_576;
 
-fn fetch_file<L: Library>(
+/// The bytes of a file.
+pub fn fetch_file<L: Library>(
     alloc: Global,
     files: &mut L,
     subject: Subject,

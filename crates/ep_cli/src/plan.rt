@@ -2,7 +2,8 @@
 ghost use Rattle.std.specs.Prelude.{◌≡◌, ◌<◌, ◌≤◌, IfOk, length};
 ghost use Rattle.ep_search.specs.Allowed.{Allowed};
 ghost use Rattle.ep_search.specs.Limits.{IsBounds};
-ghost use Rattle.ep_cli.specs.Commands.{Guided, HasItsActions, Plans, mode_of, search_bounds, told};
+ghost use Rattle.ep_cli.specs.Commands.{Guided};
+ghost use Rattle.ep_cli.specs.Results.{HasItsActions, Plans, mode_of, planned_of, search_bounds};
 ghost use Rattle.ep_cli.specs.Run.{GoesOn};
 ghost use Rattle.ep_cli.specs.Served.{TaskFile, answers};
 ghost use Rattle.ep_cli.specs.Steps.{OnlyFile, Serves};
@@ -10,6 +11,7 @@ ghost use Rattle.ep_cli.specs.declared.cause.Subject.TheVariants.{Task as OfTask
 
 use crate::answer::{Answer, Stop};
 use crate::files::{discard, task_file};
+use crate::planned::Planned;
 use ep_ground::Task;
 use ep_guide::Guide;
 use ep_io::Library;
@@ -22,19 +24,19 @@ use std::alloc::Global;
 use std::marker::Brand;
 use std::sync::ledger::{Blank, Ledger};
 
-// What is told of an answer of the search.
-fn answer_of(alloc: Global, task: &Task, depth: u32, found: &Found) -> Result<Answer, OutOfMemory>
+/// What is told of an answer of the search to a depth.
+pub fn planned(alloc: Global, task: &Task, depth: u32, found: &Found) -> Result<Planned, OutOfMemory>
     requires { HasItsActions task.now found.now }
-    ensures { IfOk result (λ answer. answers answer ≡ told task.now depth found.now) }
+    ensures { IfOk result (λ planned. planned ≡ planned_of task.now depth found.now) }
 {
     match found {
         Found::Shortest(plan) => {
-            Ok(Answer::Printed(print_plan(alloc, task, plan, Mark::Shortest)?))
+            Ok(Planned::Plan(print_plan(alloc, task, plan, Mark::Shortest)?))
         }
-        Found::Found(plan) => Ok(Answer::Printed(print_plan(alloc, task, plan, Mark::Found)?)),
-        Found::NoneTo => Ok(Answer::NoneTo { depth }),
-        Found::ManyStates => Ok(Answer::ManyStates),
-        Found::Wide(plan) => Ok(Answer::WideAfter {
+        Found::Found(plan) => Ok(Planned::Plan(print_plan(alloc, task, plan, Mark::Found)?)),
+        Found::NoneTo => Ok(Planned::NoneTo { depth }),
+        Found::ManyStates => Ok(Planned::ManyStates),
+        Found::Wide(plan) => Ok(Planned::WideAfter {
             count: plan.as_slice().len(),
             actions: print_actions(alloc, task, plan)?,
         }),
@@ -60,7 +62,8 @@ fn searched<L: Ledger>(
     search(alloc, problem, bounds, mode, guide, &mut steps)
 }
 
-fn counted(
+/// An answer of the search.
+pub fn counted(
     alloc: Global,
     problem: &Problem,
     bounds: SearchBounds,
@@ -102,7 +105,8 @@ fn answered(
 {
     let _actions = task.actions();
     let found = counted(alloc, task.problem(), limits(bounds), mode(first), guide)?;
-    answer_of(alloc, task, bounds.depth, &found)
+    let planned = planned(alloc, task, bounds.depth, &found)?;
+    Ok(Answer::OfSearch(planned))
 }
 
 // The answer of planning for the task of a file.

@@ -18,14 +18,15 @@ use ep_types::{TypeError, Typed};
 use std::alloc::Global;
 
 /// A token with its line. Behind the last token stands the end.
-fn place(tokens: &TokenList, token: u32) -> Place
+pub fn place(tokens: &TokenList, token: u32) -> Place
     ensures { result ≡ place_at tokens.now token }
 {
     let line = tokens.line(token.min(tokens.count()));
     Place { token, line }
 }
 
-fn tokens(alloc: Global, subject: Subject, bytes: &[u8]) -> Result<TokenList, Stop>
+/// The tokens of a text.
+pub fn tokens(alloc: Global, subject: Subject, bytes: &[u8]) -> Result<TokenList, Stop>
     requires { length bytes.now ≤ file_limit }
     ensures { MatchResult result (AreLexed bytes.now) (StopsBy (Tokenized subject bytes.now nothing_behind)) }
 {

@@ -1,6 +1,6 @@
 -- Where the command ends.
 use Rattle.std.proofs.lemmas.Result.{err_from_is_err_and}
-use Rattle.ep_cli.specs.Commands.{Checks}
+use Rattle.ep_cli.specs.Results.{Checks}
 use Rattle.ep_cli.proofs.Lift.{stops_at_task, ends_with}
 use Rattle.ep_cli.proofs.Steps.{ground_formed, ground_shallow}
 use Rattle.ep_cli.proofs.Told.{checks_is_behind}

@@ -4,7 +4,7 @@ use Rattle.std.proofs.lemmas.Result.{IfOk-weaker}
 use Rattle.ep_problem.specs.PlanningTask.{PlanningTask}
 use Rattle.ep_search.specs.Allowed.{Allowed}
 use Rattle.ep_search.specs.declared.answer.Bounds.{Bounds as SearchBounds}
-use Rattle.ep_cli.specs.Commands.{search_bounds}
+use Rattle.ep_cli.specs.Results.{search_bounds}
 use Rattle.ep_cli.specs.Served.{answers}
 use Rattle.ep_cli.proofs.PlanLemmas.{allowed_has_actions, plans_by}
 use Rattle.ep_cli.proofs.plan.answered.Goals as goal

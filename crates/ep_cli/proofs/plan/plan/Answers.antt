@@ -1,6 +1,6 @@
 -- Where the command ends.
 use Rattle.std.proofs.lemmas.Result.{err_from_is_err_and}
-use Rattle.ep_cli.specs.Commands.{Plans}
+use Rattle.ep_cli.specs.Results.{Plans}
 use Rattle.ep_cli.proofs.Lift.{stops_at_task, ends_with}
 use Rattle.ep_cli.proofs.PlanLemmas.{plans_is_behind}
 use Rattle.ep_cli.proofs.plan.plan.Goals as goal

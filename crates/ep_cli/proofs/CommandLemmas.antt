@@ -1,0 +1,155 @@
+-- How the commands with plans and the trial put their steps together.
+use Rattle.std.proofs.Common.{◌≡◌, ◌≤◌, ◌<◌, ◌⊎◌, ◌↔◌, ℕ, List, length, IfSome, Result, Ok, Err, inl, inr, refl, sym, subst, ◌∙◌, arith}
+use Rattle.ep_logic.specs.declared.ids.ActionId.{ActionId}
+use Rattle.ep_logic.specs.declared.formula.Node.{Node}
+use Rattle.ep_theory.specs.Kripke.{Kripke}
+use Rattle.ep_parts.specs.Task.{GroundTask}
+use Rattle.ep_io.specs.Library.{FileMap, LibraryState}
+use Rattle.ep_cli.specs.Commands.{Guided, NamesOne, NamesTwo, PlanWork, SameWork, word_at}
+use Rattle.ep_cli.specs.declared.answer.Answer.{Answer}
+use Rattle.ep_cli.specs.declared.answer.Answer.TheVariants.{NoSuchGuide}
+use Rattle.ep_cli.specs.declared.answer.Stop.{Stop}
+use Rattle.ep_cli.specs.declared.answer.Stop.TheVariants.{Told, OutOfMemory}
+use Rattle.ep_cli.specs.declared.cause.Subject.{Subject}
+use Rattle.ep_cli.specs.declared.cause.Subject.TheVariants.{Task}
+use Rattle.ep_cli.specs.declared.question.Question.{Question}
+use Rattle.ep_cli.specs.declared.question.Question.TheVariants.{Validate, Eval, State, Contract}
+use Rattle.ep_cli.specs.declared.run_stop.Whose.TheVariants.{Only, First, Second}
+use Rattle.ep_cli.specs.declared.status.Status.{Status}
+use Rattle.ep_cli.specs.Answer.{answer_status, answer_text}
+use Rattle.ep_cli.specs.FormulaWord.{FormulaWord}
+use Rattle.ep_cli.specs.PlanFile.{PlanFile, Ran}
+use Rattle.ep_cli.specs.Results.{Asks, Compares, Contractions, Evals, Evaluates, Shows, ShowsContraction, States, Tries, Validates}
+use Rattle.ep_cli.specs.Run.{GoesOn, IsAnswerOf}
+use Rattle.ep_cli.specs.Served.{Outcome, Answers, TaskFile, TaskRead, answers}
+use Rattle.ep_cli.specs.Steps.{IsPlanWord, IsTaskFile, Serves, StopsAtPlan, StopsAtTask, StopsBy, TaskAndPlan, TaskAndPlans, Tells, nothing_behind}
+use Rattle.ep_cli.proofs.FormulaLemmas.{formula_is_behind}
+use Rattle.ep_cli.proofs.Lift.{IsAnswerOf-held, Serves-more, all_held, behind_is_answer, later, read_is_behind, serves_no_guide, task_then}
+use Rattle.ep_cli.proofs.PlanFileLemmas.{PlanFile-weaker, plan_then, ran_is_behind}
+use Rattle.ep_cli.proofs.Told.{IsBehind, compares_is_behind, contraction_is_behind, evaluates_is_behind, shows_is_behind, tries_is_behind, validates_is_behind}
+
+-- ---- answers, wherever they come
+
+pub serves_map : (work more : FileMap → Outcome → Type 0) (names others : Subject → List ℕ → Type 0) (one other : Type 0) (mid old new : LibraryState) (r : Result Answer Stop)
+    → ((status : Status) (text : List ℕ) → IsAnswerOf work names one mid new status text → IsAnswerOf more others other old new status text)
+    → Serves work names one mid new r → Serves more others other old new r
+serves_map work more names others one other mid old new (Ok answer) f h = f (answer_status answer) (answer_text answer) h
+serves_map work more names others one other mid old new (Err (Told answer)) f h = f (answer_status answer) (answer_text answer) h
+serves_map work more names others one other mid old new (Err OutOfMemory) f h = h
+
+pub tells_map : (work more : Outcome → Type 0) (r : Result Answer Stop) → ((o : Outcome) → work o → more o) → Tells work r → Tells more r
+tells_map work more (Ok answer) f h = f (answers answer) h
+tells_map work more (Err (Told answer)) f h = f (answers answer) h
+tells_map work more (Err OutOfMemory) f h = h
+
+pub stops_map : (work more : Outcome → Type 0) (stop : Stop) → ((o : Outcome) → work o → more o) → StopsBy work stop → StopsBy more stop
+stops_map work more (Told answer) f h = f (answers answer) h
+stops_map work more OutOfMemory f h = h
+
+-- what is told without a fetch
+pub tells_is_served : (work : Outcome → Type 0) (names : Subject → List ℕ → Type 0) (old new : LibraryState) (r : Result Answer Stop)
+    → ((status : Status) (text : List ℕ) → work (Answers status text) → IsBehind status text)
+    → Tells work r → Serves (λ files. work) names ⊥ old new r
+tells_is_served work names old new (Ok answer) b h =
+    behind_is_answer (λ files. work) names old new (answer_status answer) (answer_text answer) (b (answer_status answer) (answer_text answer) h) (all_held old.held (λ files. h))
+tells_is_served work names old new (Err (Told answer)) b h =
+    behind_is_answer (λ files. work) names old new (answer_status answer) (answer_text answer) (b (answer_status answer) (answer_text answer) h) (all_held old.held (λ files. h))
+tells_is_served work names old new (Err OutOfMemory) b h = h
+
+-- ---- behind a task
+
+pub behind_task : (old mid new : LibraryState) (file : List ℕ) (g : GroundTask) (P : FileMap → GroundTask → Outcome → Type 0) (names others : Subject → List ℕ → Type 0) (r : Result Answer Stop)
+    → IsTaskFile old file g → GoesOn old mid → ((s : Subject) (name : List ℕ) → names s name → others s name)
+    → Serves (λ files. P files g) names ⊥ mid new r → Serves (λ files. TaskFile files file (P files)) others ⊥ old new r
+behind_task old mid new file g P names others r t on f h =
+    serves_map (λ files. P files g) (λ files. TaskFile files file (P files)) names others ⊥ ⊥ mid old new r
+    (λ status text k. IsAnswerOf-held (λ files. P files g) (λ files. TaskFile files file (P files)) names others ⊥ ⊥ old new status text (λ x. x, λ x. x)
+    (task_then old file g (λ files. P files g) P t (λ files o w. w)) f (later (λ files. P files g) names old mid new status text on k)) h
+
+-- ---- behind a plan
+
+pub stops_at_plan : (old new : LibraryState) (subject : Subject) (word : List ℕ) (g : GroundTask) (P : FileMap → List ActionId → Outcome → Type 0) (names others : Subject → List ℕ → Type 0) (stop : Stop)
+    → ((s : Subject) (name : List ℕ) → names s name → others s name)
+    → Serves (λ files. PlanFile files subject word g nothing_behind) names ⊥ old new (Err stop)
+    → Serves (λ files. PlanFile files subject word g (P files)) others ⊥ old new (Err stop)
+stops_at_plan old new subject word g P names others stop f h =
+    Serves-more (λ files. PlanFile files subject word g nothing_behind) (λ files. PlanFile files subject word g (P files)) names others ⊥ old new (Err stop)
+    (λ files o w. PlanFile-weaker files subject word g nothing_behind (P files) o (λ plan none. absurd none) w) f h
+
+pub behind_plan : (old mid new : LibraryState) (subject : Subject) (word : List ℕ) (g : GroundTask) (plan : List ActionId) (P : FileMap → List ActionId → Outcome → Type 0) (names others : Subject → List ℕ → Type 0) (r : Result Answer Stop)
+    → IsPlanWord old word g plan → GoesOn old mid → ((s : Subject) (name : List ℕ) → names s name → others s name)
+    → Serves (λ files. P files plan) names ⊥ mid new r → Serves (λ files. PlanFile files subject word g (P files)) others ⊥ old new r
+behind_plan old mid new subject word g plan P names others r p on f h =
+    serves_map (λ files. P files plan) (λ files. PlanFile files subject word g (P files)) names others ⊥ ⊥ mid old new r
+    (λ status text k. IsAnswerOf-held (λ files. P files plan) (λ files. PlanFile files subject word g (P files)) names others ⊥ ⊥ old new status text (λ x. x, λ x. x)
+    (plan_then old subject word g plan P p) f (later (λ files. P files plan) names old mid new status text on k)) h
+
+-- ---- what the questions tell
+
+evals_is_behind : (formula : List ℕ) (g : GroundTask) (plan : List ActionId) (status : Status) (text : List ℕ) → Evals formula g plan (Answers status text) → IsBehind status text
+evals_is_behind formula g plan status text h =
+    formula_is_behind g formula (λ f. Ran Only g plan (Evaluates f)) status text
+    (λ f r. ran_is_behind Only g plan (Evaluates f) status text (λ S e. evaluates_is_behind f S status text e) r) h
+
+pub asks_is_behind : (q : Question) (g : GroundTask) (plan : List ActionId) (status : Status) (text : List ℕ) → Asks q g plan (Answers status text) → IsBehind status text
+asks_is_behind Validate g plan status text h = validates_is_behind g plan status text h
+asks_is_behind (Eval formula) g plan status text h = evals_is_behind formula.now g plan status text h
+asks_is_behind State g plan status text h = ran_is_behind Only g plan (Shows g) status text (λ S e. shows_is_behind g S status text e) h
+asks_is_behind Contract g plan status text h = ran_is_behind Only g plan (ShowsContraction g) status text (λ S e. contraction_is_behind g S status text e) h
+
+pub second_is_behind : (g : GroundTask) (S : Kripke) (plan : List ActionId) (status : Status) (text : List ℕ) → Ran Second g plan (Compares S) (Answers status text) → IsBehind status text
+second_is_behind g S plan status text h = ran_is_behind Second g plan (Compares S) status text (λ R e. compares_is_behind S R status text e) h
+
+-- ---- the words of commands with plans
+
+one_names : (words : List (List ℕ)) (file plan : List ℕ) → file ≡ word_at words 1 → plan ≡ word_at words 2
+    → (s : Subject) (name : List ℕ) → TaskAndPlan file plan s name → NamesOne words s name
+one_names words file plan e p s name (inl o) = subst (λ t. NamesOne words t name) (sym o.0) (o.1 ∙ e)
+one_names words file plan e p s name (inr o) = subst (λ t. NamesOne words t name) (sym o.0) (o.1.0 ∙ p, λ k. o.1.1 (p ∙ k))
+
+pub serves_one : (words : List (List ℕ)) (file plan : List ℕ) (ask : GroundTask → List ActionId → Outcome → Type 0) (old new : LibraryState) (r : Result Answer Stop)
+    → file ≡ word_at words 1 → plan ≡ word_at words 2
+    → Serves (λ files. PlanWork files file plan ask) (TaskAndPlan file plan) ⊥ old new r
+    → Serves (λ files. PlanWork files (word_at words 1) (word_at words 2) ask) (NamesOne words) ⊥ old new r
+serves_one words file plan ask old new r e p h =
+    Serves-more (λ files. PlanWork files file plan ask) (λ files. PlanWork files (word_at words 1) (word_at words 2) ask) (TaskAndPlan file plan) (NamesOne words) ⊥ old new r
+    (λ files o w. subst (λ f. PlanWork files f (word_at words 2) ask o) e (subst (λ p. PlanWork files file p ask o) p w)) (one_names words file plan e p) h
+
+two_names : (words : List (List ℕ)) (file one two : List ℕ) → file ≡ word_at words 1 → one ≡ word_at words 2 → two ≡ word_at words 3
+    → (s : Subject) (name : List ℕ) → TaskAndPlans file one two s name → NamesTwo words s name
+two_names words file one two e p q s name (inl o) = subst (λ t. NamesTwo words t name) (sym o.0) (o.1 ∙ e)
+two_names words file one two e p q s name (inr (inl o)) = subst (λ t. NamesTwo words t name) (sym o.0) (o.1.0 ∙ p, λ k. o.1.1 (p ∙ k))
+two_names words file one two e p q s name (inr (inr o)) = subst (λ t. NamesTwo words t name) (sym o.0) (o.1.0 ∙ q, λ k. o.1.1 (q ∙ k))
+
+pub serves_same : (words : List (List ℕ)) (file one two : List ℕ) (old new : LibraryState) (r : Result Answer Stop)
+    → file ≡ word_at words 1 → one ≡ word_at words 2 → two ≡ word_at words 3
+    → Serves (λ files. SameWork files file one two) (TaskAndPlans file one two) ⊥ old new r
+    → Serves (λ files. SameWork files (word_at words 1) (word_at words 2) (word_at words 3)) (NamesTwo words) ⊥ old new r
+serves_same words file one two old new r e p q h =
+    Serves-more (λ files. SameWork files file one two) (λ files. SameWork files (word_at words 1) (word_at words 2) (word_at words 3)) (TaskAndPlans file one two) (NamesTwo words) ⊥ old new r
+    (λ files o w. subst (λ f. SameWork files f (word_at words 2) (word_at words 3) o) e (subst (λ p. SameWork files file p (word_at words 3) o) p (subst (λ q. SameWork files file one q o) q w)))
+    (two_names words file one two e p q) h
+
+-- ---- trials
+
+told_guide : (guides : ℕ) (W : Outcome → Type 0) (names : Subject → List ℕ → Type 0) (library : LibraryState) (status : Status) (text : List ℕ)
+    → ((status : Status) (text : List ℕ) → W (Answers status text) → IsBehind status text)
+    → Guided guides 0 W (Answers status text) → IsAnswerOf (λ files. Guided guides 0 W) names (guides ≤ 0) library library status text
+told_guide guides W names library status text b (inl (none, told)) =
+    let s : status ≡ answer_status NoSuchGuide = cc in
+    let t : text ≡ answer_text NoSuchGuide = cc in
+    rw (s, t) (serves_no_guide guides 0 (λ files. W) names library none)
+told_guide guides W names library status text b (inr (some, w)) =
+    IsAnswerOf-held (λ files. W) (λ files. Guided guides 0 W) names names ⊥ (guides ≤ 0) library library status text
+    (λ x. absurd x, λ k. absurd (omega (arith, k, some))) (all_held library.held (λ files o v. inr (some, v))) (λ s name n. n)
+    (behind_is_answer (λ files. W) names library library status text (b status text w) (all_held library.held (λ files. w)))
+
+pub serves_trial : (guides : ℕ) (W : Outcome → Type 0) (names : Subject → List ℕ → Type 0) (library : LibraryState) (r : Result Answer Stop)
+    → ((status : Status) (text : List ℕ) → W (Answers status text) → IsBehind status text)
+    → Tells (Guided guides 0 W) r → Serves (λ files. Guided guides 0 W) names (guides ≤ 0) library library r
+serves_trial guides W names library (Ok answer) b h = told_guide guides W names library (answer_status answer) (answer_text answer) b h
+serves_trial guides W names library (Err (Told answer)) b h = told_guide guides W names library (answer_status answer) (answer_text answer) b h
+serves_trial guides W names library (Err OutOfMemory) b h = h
+
+pub trial_is_behind : (n : ℕ) (bytes : List ℕ) (status : Status) (text : List ℕ) → TaskRead bytes (Tries n) (Answers status text) → IsBehind status text
+trial_is_behind n bytes status text h = read_is_behind bytes (Tries n) status text (λ g w. tries_is_behind n g status text w) h

@@ -1,0 +1,179 @@
+// The commands with a task and one plan.
+ghost use Rattle.std.specs.Prelude.{◌≡◌, ◌<◌, ◌≤◌, length, IfOk, MatchResult};
+ghost use Rattle.ep_logic.specs.declared.formula.Node.{Node};
+ghost use Rattle.ep_plan.specs.Runs.{AreOf};
+ghost use Rattle.ep_plan.specs.Verdicts.{IsVerdict};
+ghost use Rattle.ep_theory.specs.Fits.{Fits};
+ghost use Rattle.ep_theory.specs.Kripke.{IsState};
+ghost use Rattle.ep_cli.specs.Commands.{PlanWork};
+ghost use Rattle.ep_cli.specs.PlanFile.{PlanFile};
+ghost use Rattle.ep_cli.specs.Results.{AreItsActions, Asks, Contractions, Evals, Evaluates, Shows, ShowsContraction, States, Validates};
+ghost use Rattle.ep_cli.specs.Run.{GoesOn};
+ghost use Rattle.ep_cli.specs.Served.{answers};
+ghost use Rattle.ep_cli.specs.Steps.{OnlyPlan, Serves, Tells, TaskAndPlan};
+ghost use Rattle.ep_cli.specs.declared.cause.Subject.TheVariants.{Plan as OfPlan};
+
+use crate::answer::{Answer, Stop};
+use crate::cause::Subject;
+use crate::files::{discard, task_file};
+use crate::formula::formula_word;
+use crate::plan_file::{plan_file, ran};
+use crate::question::Question;
+use crate::run_stop::Whose;
+use ep_canon::contract;
+use ep_ground::{Task, print_state};
+use ep_io::Library;
+use ep_kripke::State;
+use ep_logic::{Formula, OutOfMemory, Steps};
+use ep_plan::{Verdict, validate};
+use ep_problem::{Plan, Problem};
+use ep_truth::label;
+use std::alloc::Global;
+use std::marker::Brand;
+use std::sync::ledger::{Blank, Ledger};
+
+// ---- validate
+
+// The verdict, on a counter of its own.
+fn verdict_on<L: Ledger>(
+    alloc: Global,
+    problem: &Problem,
+    plan: &Plan,
+    blank: Blank,
+) -> Result<Verdict, OutOfMemory>
+    requires length { length plan.now ≤ 262144 }
+    requires actions { AreOf problem.now plan.now }
+    requires name { blank.name ≡ L.name }
+    requires parts { blank.parts ≡ L.parts }
+    requires some { 0 < L.parts }
+    ensures { IfOk result (IsVerdict problem.now plan.now) }
+{
+    let mut steps = Steps::<L>::new(blank);
+    validate(alloc, problem, plan, &mut steps)
+}
+
+/// The verdict on a plan of a task.
+pub fn verdict(alloc: Global, task: &Task, plan: &Plan) -> Result<Verdict, OutOfMemory>
+    requires length { length plan.now ≤ 262144 }
+    requires actions { AreItsActions task.now plan.now }
+    ensures { IfOk result (IsVerdict task.now.problem plan.now) }
+{
+    let _actions = task.actions();
+    verdict_on::<Brand>(alloc, task.problem(), plan, Blank::new(1))
+}
+
+// ---- eval
+
+fn evaluated(alloc: Global, state: &State, formula: &Formula) -> Result<Answer, OutOfMemory>
+    requires { Fits state.now formula.now }
+    ensures { IfOk result (λ answer. Evaluates formula.now state.now (answers answer)) }
+{
+    let row = label(alloc, state, formula)?;
+    let mut count = 0;
+    for world in state.designated() {
+        if row.get(*world) {
+            count += 1;
+        }
+    }
+    Ok(Answer::TrueAt {
+        count,
+        designated: state.designated().len() as u64,
+    })
+}
+
+fn evals(alloc: Global, task: &Task, plan: &Plan, word: &str) -> Result<Answer, Stop>
+    requires length { length plan.now ≤ 262144 }
+    requires actions { AreItsActions task.now plan.now }
+    ensures { Tells (Evals word.now task.now plan.now) result }
+{
+    let formula = formula_word(alloc, task, word)?;
+    let state = ran(alloc, task, Whose::Only, plan)?;
+    let answer = evaluated(alloc, &state, &formula)?;
+    Ok(answer)
+}
+
+// ---- state
+
+fn shows(alloc: Global, task: &Task, plan: &Plan) -> Result<Answer, Stop>
+    requires length { length plan.now ≤ 262144 }
+    requires actions { AreItsActions task.now plan.now }
+    ensures { Tells (States task.now plan.now) result }
+{
+    let state = ran(alloc, task, Whose::Only, plan)?;
+    let text = print_state(alloc, task, &state)?;
+    Ok(Answer::Shown(text))
+}
+
+// ---- contract
+
+fn contraction(alloc: Global, task: &Task, state: &State) -> Result<Answer, OutOfMemory>
+    requires worlds { state.now.worlds ≤ 4096 }
+    requires agents { state.now.agents ≡ length task.now.agents }
+    requires atoms { state.now.atoms ≡ length task.now.atoms }
+    ensures { IfOk result (λ answer. ShowsContraction task.now state.now (answers answer)) }
+{
+    let canon = contract(alloc, state)?;
+    let text = print_state(alloc, task, canon.state())?;
+    let bytes = canon.bytes(alloc)?;
+    Ok(Answer::Contraction {
+        state: text,
+        bytes: hex::encode(alloc, bytes.as_slice())?,
+    })
+}
+
+fn contracts(alloc: Global, task: &Task, plan: &Plan) -> Result<Answer, Stop>
+    requires length { length plan.now ≤ 262144 }
+    requires actions { AreItsActions task.now plan.now }
+    ensures { Tells (Contractions task.now plan.now) result }
+{
+    let state = ran(alloc, task, Whose::Only, plan)?;
+    let answer = contraction(alloc, task, &state)?;
+    Ok(answer)
+}
+
+// ---- all of them
+
+fn asked(alloc: Global, task: &Task, plan: &Plan, question: Question) -> Result<Answer, Stop>
+    requires length { length plan.now ≤ 262144 }
+    requires actions { AreItsActions task.now plan.now }
+    ensures { Tells (Asks question task.now plan.now) result }
+{
+    match question {
+        Question::Validate => Ok(Answer::Judged(verdict(alloc, task, plan)?)),
+        Question::Eval(word) => evals(alloc, task, plan, word),
+        Question::State => shows(alloc, task, plan),
+        Question::Contract => contracts(alloc, task, plan),
+    }
+}
+
+// What is asked of the task and the plan of a word.
+fn of_task<L: Library>(
+    alloc: Global,
+    files: &mut L,
+    task: &Task,
+    word: &str,
+    question: Question,
+) -> Result<Answer, Stop>
+    ensures goes_on { GoesOn (L.library files.old) (L.library files.new) }
+    ensures answer { Serves (λ held. PlanFile held OfPlan word.now task.now (Asks question task.now)) (OnlyPlan OfPlan word.now) ⊥ (L.library files.old) (L.library files.new) result }
+{
+    let plan = plan_file(alloc, files, Subject::Plan, task, word)?;
+    asked(alloc, task, &plan, question)
+}
+
+/// What is asked of the task of a file and the plan of a word.
+pub fn one_plan<L: Library>(
+    alloc: Global,
+    files: &mut L,
+    file: &str,
+    word: &str,
+    question: Question,
+) -> Result<Answer, Stop>
+    ensures goes_on { GoesOn (L.library files.old) (L.library files.new) }
+    ensures answer { Serves (λ held. PlanWork held file.now word.now (Asks question)) (TaskAndPlan file.now word.now) ⊥ (L.library files.old) (L.library files.new) result }
+{
+    let task = task_file(alloc, files, file)?;
+    let answer = of_task(alloc, files, &task, word, question);
+    discard(task);
+    answer
+}

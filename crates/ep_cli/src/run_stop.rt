@@ -1,0 +1,110 @@
+// How the run of a plan stops, and verdicts.
+ghost use Rattle.std.specs.Prelude.{◌≡◌, Some};
+ghost use Rattle.ep_cli.specs.Answer.{stop_status, stop_text, verdict_status, verdict_text, whose_text};
+
+use crate::Status;
+use ep_plan::Verdict;
+use std::fmt;
+
+/// The plan of a command that has one, or which of its two.
+#[derive(Clone, Copy, Debug, PartialEq, Eq)]
+pub enum Whose {
+    Only,
+    First,
+    Second,
+}
+
+impl fmt::Display for Whose {
+    ghost output = { λ w. Some (whose_text w) };
+
+    fn fmt<W: fmt::Write>(&self, f: &mut fmt::Formatter<W>) -> fmt::Result {
+        f.write_str(match self {
+            Whose::Only => "",
+            Whose::First => "first plan, ",
+            Whose::Second => "second plan, ",
+        })
+    }
+}
+
+/// Where a run stops before its end: the step, counted from 1, does not apply, or its product is too large, with the exact number.
+#[derive(Clone, Copy, Debug, PartialEq, Eq)]
+pub enum RunStop {
+    Stuck { step: u32 },
+    SpentWorlds { step: u32, worlds: u64 },
+    SpentLinks { step: u32, links: u64 },
+}
+
+impl RunStop {
+    pub fn status(&self) -> Status
+        ensures { result ≡ stop_status self.now }
+    {
+        match self {
+            RunStop::Stuck { .. } => Status::No,
+            RunStop::SpentWorlds { .. } | RunStop::SpentLinks { .. } => Status::Undecided,
+        }
+    }
+
+    pub fn of(&self, whose: Whose) -> StopOf
+        ensures { result ≡ record { whose = whose; stop = self.now } }
+    {
+        StopOf { whose, stop: *self }
+    }
+}
+
+/// The stop of one plan's run.
+#[derive(Clone, Copy, Debug, PartialEq, Eq)]
+pub struct StopOf {
+    pub whose: Whose,
+    pub stop: RunStop,
+}
+
+impl fmt::Display for StopOf {
+    ghost output = { λ s. Some (stop_text s.whose s.stop) };
+
+    fn fmt<W: fmt::Write>(&self, f: &mut fmt::Formatter<W>) -> fmt::Result {
+        let whose = self.whose;
+        match self.stop {
+            RunStop::Stuck { step } => write!(f, "no: {whose}step {step}"),
+            RunStop::SpentWorlds { step, worlds } => {
+                write!(f, "spent: {whose}step {step}, worlds {worlds}")
+            }
+            RunStop::SpentLinks { step, links } => {
+                write!(f, "spent: {whose}step {step}, links {links}")
+            }
+        }
+    }
+}
+
+/// The text of a verdict.
+#[derive(Clone, Copy, Debug, PartialEq, Eq)]
+pub struct Judgement(pub Verdict);
+
+impl fmt::Display for Judgement {
+    ghost output = { λ j. Some (verdict_text j.0) };
+
+    fn fmt<W: fmt::Write>(&self, f: &mut fmt::Formatter<W>) -> fmt::Result {
+        match self.0 {
+            Verdict::Yes => f.write_str("yes"),
+            Verdict::GoalFalse => f.write_str("no: goal"),
+            Verdict::Inapplicable { step } => {
+                write!(f, "{}", RunStop::Stuck { step }.of(Whose::Only))
+            }
+            Verdict::SpentWorlds { step, worlds } => {
+                write!(f, "{}", RunStop::SpentWorlds { step, worlds }.of(Whose::Only))
+            }
+            Verdict::SpentLinks { step, links } => {
+                write!(f, "{}", RunStop::SpentLinks { step, links }.of(Whose::Only))
+            }
+        }
+    }
+}
+
+pub fn verdict_status(verdict: Verdict) -> Status
+    ensures { result ≡ verdict_status verdict }
+{
+    match verdict {
+        Verdict::Yes => Status::Ok,
+        Verdict::GoalFalse | Verdict::Inapplicable { .. } => Status::No,
+        Verdict::SpentWorlds { .. } | Verdict::SpentLinks { .. } => Status::Undecided,
+    }
+}

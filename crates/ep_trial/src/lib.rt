@@ -1,0 +1,11 @@
+//! The text of a puzzle that the planner is tried on.
+#![tactic(auto)]
+
+mod children;
+mod text_builder;
+mod trial;
+
+pub use trial::trial_text;
+
+#[cfg(test)]
+mod tests;

@@ -27,7 +27,12 @@ use std::marker::Brand;
 use std::sync::ledger::{Blank, Ledger};
 
 /// What is told of an answer of the search to a depth.
-pub fn planned(alloc: Global, task: &Task, depth: u32, found: &Found) -> Result<Planned, OutOfMemory>
+pub fn planned(
+    alloc: Global,
+    task: &Task,
+    depth: u32,
+    found: &Found,
+) -> Result<Planned, OutOfMemory>
     requires { HasItsActions task.now found.now }
     ensures { IfOk result (λ planned. planned ≡ planned_of task.now depth found.now) }
 {

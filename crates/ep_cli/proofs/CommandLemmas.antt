@@ -5,27 +5,34 @@ use Rattle.ep_logic.specs.declared.formula.Node.{Node}
 use Rattle.ep_theory.specs.Kripke.{Kripke}
 use Rattle.ep_parts.specs.Task.{GroundTask}
 use Rattle.ep_io.specs.Library.{FileMap, LibraryState}
-use Rattle.ep_cli.specs.Commands.{Guided, NamesOne, NamesTwo, PlanWork, SameWork, word_at}
+use Rattle.ep_plan.specs.Runs.{RunUnder}
+use Rattle.ep_plan.specs.declared.runs.Outcome.TheVariants as run
+use Rattle.ep_trial.specs.TrialText.{trial_text}
+use Rattle.ep_words.specs.declared.command.Command.{Command}
+use Rattle.ep_words.specs.declared.command.Command.TheVariants as command
+use Rattle.ep_cli.specs.Commands.{CommandWork, Guided, LacksGuide, Names, NamesOne, NamesTwo, PlanWork, SameWork, word_at}
 use Rattle.ep_cli.specs.declared.answer.Answer.{Answer}
-use Rattle.ep_cli.specs.declared.answer.Answer.TheVariants.{NoSuchGuide}
+use Rattle.ep_cli.specs.declared.answer.Answer.TheVariants.{NoSuchGuide, Tried}
 use Rattle.ep_cli.specs.declared.answer.Stop.{Stop}
 use Rattle.ep_cli.specs.declared.answer.Stop.TheVariants.{Told, OutOfMemory}
 use Rattle.ep_cli.specs.declared.cause.Subject.{Subject}
 use Rattle.ep_cli.specs.declared.cause.Subject.TheVariants.{Task}
 use Rattle.ep_cli.specs.declared.question.Question.{Question}
 use Rattle.ep_cli.specs.declared.question.Question.TheVariants.{Validate, Eval, State, Contract}
+use Rattle.ep_cli.specs.declared.run_stop.Whose.{Whose}
 use Rattle.ep_cli.specs.declared.run_stop.Whose.TheVariants.{Only, First, Second}
 use Rattle.ep_cli.specs.declared.status.Status.{Status}
+use Rattle.ep_cli.specs.declared.trial_text.Trial.{Trial}
 use Rattle.ep_cli.specs.Answer.{answer_status, answer_text}
 use Rattle.ep_cli.specs.FormulaWord.{FormulaWord}
-use Rattle.ep_cli.specs.PlanFile.{PlanFile, Ran}
-use Rattle.ep_cli.specs.Results.{Asks, Compares, Contractions, Evals, Evaluates, Shows, ShowsContraction, States, Tries, Validates}
+use Rattle.ep_cli.specs.PlanFile.{PlanFile, Ran, run_size}
+use Rattle.ep_cli.specs.Results.{Asks, Compares, Contractions, Evals, Evaluates, IsTrial, Shows, ShowsContraction, States, Tries, Validates}
 use Rattle.ep_cli.specs.Run.{GoesOn, IsAnswerOf}
 use Rattle.ep_cli.specs.Served.{Outcome, Answers, TaskFile, TaskRead, answers}
 use Rattle.ep_cli.specs.Steps.{IsPlanWord, IsTaskFile, Serves, StopsAtPlan, StopsAtTask, StopsBy, TaskAndPlan, TaskAndPlans, Tells, nothing_behind}
 use Rattle.ep_cli.proofs.FormulaLemmas.{formula_is_behind}
 use Rattle.ep_cli.proofs.Lift.{IsAnswerOf-held, Serves-more, all_held, behind_is_answer, later, read_is_behind, serves_no_guide, task_then}
-use Rattle.ep_cli.proofs.PlanFileLemmas.{PlanFile-weaker, plan_then, ran_is_behind}
+use Rattle.ep_cli.proofs.PlanFileLemmas.{PlanFile-weaker, Ran-behind, Ran-weaker, plan_then, ran_is_behind}
 use Rattle.ep_cli.proofs.Told.{IsBehind, compares_is_behind, contraction_is_behind, evaluates_is_behind, shows_is_behind, tries_is_behind, validates_is_behind}
 
 -- ---- answers, wherever they come
@@ -84,6 +91,23 @@ behind_plan old mid new subject word g plan P names others r p on f h =
     (λ status text k. IsAnswerOf-held (λ files. P files plan) (λ files. PlanFile files subject word g (P files)) names others ⊥ ⊥ old new status text (λ x. x, λ x. x)
     (plan_then old subject word g plan P p) f (later (λ files. P files plan) names old mid new status text on k)) h
 
+-- ---- behind a run
+
+pub behind_run : (old new : LibraryState) (whose : Whose) (g : GroundTask) (plan : List ActionId) (S : Kripke) (P : FileMap → Kripke → Outcome → Type 0) (names : Subject → List ℕ → Type 0) (r : Result Answer Stop)
+    → RunUnder g.problem plan run_size (run.After S)
+    → Serves (λ files. P files S) names ⊥ old new r → Serves (λ files. Ran whose g plan (P files)) names ⊥ old new r
+behind_run old new whose g plan S P names r left h =
+    Serves-more (λ files. P files S) (λ files. Ran whose g plan (P files)) names names ⊥ old new r
+    (λ files o w. Ran-behind whose g plan S (P files) o left w) (λ s name n. n) h
+
+-- where the run stops, whatever may stand behind it
+pub first_stops : (names : Subject → List ℕ → Type 0) (old new : LibraryState) (g : GroundTask) (plan : List ActionId) (P : FileMap → Kripke → Outcome → Type 0) (stop : Stop)
+    → StopsBy (Ran First g plan nothing_behind) stop → Serves (λ files. Ran First g plan (P files)) names ⊥ old new (Err stop)
+first_stops names old new g plan P stop h =
+    Serves-more (λ files. Ran First g plan nothing_behind) (λ files. Ran First g plan (P files)) names names ⊥ old new (Err stop)
+    (λ files o w. Ran-weaker First g plan nothing_behind (P files) o (λ S none. absurd none) w) (λ s name n. n)
+    (tells_is_served (Ran First g plan nothing_behind) names old new (Err stop) (λ status text w. ran_is_behind First g plan nothing_behind status text (λ S none. absurd none) w) h)
+
 -- ---- what the questions tell
 
 evals_is_behind : (formula : List ℕ) (g : GroundTask) (plan : List ActionId) (status : Status) (text : List ℕ) → Evals formula g plan (Answers status text) → IsBehind status text
@@ -115,20 +139,51 @@ serves_one words file plan ask old new r e p h =
     Serves-more (λ files. PlanWork files file plan ask) (λ files. PlanWork files (word_at words 1) (word_at words 2) ask) (TaskAndPlan file plan) (NamesOne words) ⊥ old new r
     (λ files o w. subst (λ f. PlanWork files f (word_at words 2) ask o) e (subst (λ p. PlanWork files file p ask o) p w)) (one_names words file plan e p) h
 
+-- one command after the other, by its variant
+abbrev pub ServesCommand : List (List ℕ) → ℕ → LibraryState → LibraryState → Result Answer Stop → Command → Type 0
+ServesCommand words guides old new r k = Serves (λ files. CommandWork files words guides k) (Names words k) (LacksGuide guides k) old new r
+
+pub serves_validate : (words : List (List ℕ)) (guides : ℕ) (file plan : List ℕ) (old new : LibraryState) (r : Result Answer Stop) (k : Command) → k ≡ command.Validate
+    → file ≡ word_at words 1 → plan ≡ word_at words 2
+    → Serves (λ files. PlanWork files file plan Validates) (TaskAndPlan file plan) ⊥ old new r → ServesCommand words guides old new r k
+serves_validate words guides file plan old new r k is e p h = subst (ServesCommand words guides old new r) (sym is) (serves_one words file plan Validates old new r e p h)
+
+pub serves_eval : (words : List (List ℕ)) (guides : ℕ) (file plan formula : List ℕ) (old new : LibraryState) (r : Result Answer Stop) (k : Command) → k ≡ command.Eval
+    → file ≡ word_at words 1 → plan ≡ word_at words 2 → formula ≡ word_at words 3
+    → Serves (λ files. PlanWork files file plan (Evals formula)) (TaskAndPlan file plan) ⊥ old new r → ServesCommand words guides old new r k
+serves_eval words guides file plan formula old new r k is e p f h =
+    let by_word = subst (λ f. Serves (λ files. PlanWork files file plan (Evals f)) (TaskAndPlan file plan) ⊥ old new r) f h in
+    subst (ServesCommand words guides old new r) (sym is) (serves_one words file plan (Evals (word_at words 3)) old new r e p by_word)
+
+pub serves_state : (words : List (List ℕ)) (guides : ℕ) (file plan : List ℕ) (old new : LibraryState) (r : Result Answer Stop) (k : Command) → k ≡ command.State
+    → file ≡ word_at words 1 → plan ≡ word_at words 2
+    → Serves (λ files. PlanWork files file plan States) (TaskAndPlan file plan) ⊥ old new r → ServesCommand words guides old new r k
+serves_state words guides file plan old new r k is e p h = subst (ServesCommand words guides old new r) (sym is) (serves_one words file plan States old new r e p h)
+
+pub serves_contract : (words : List (List ℕ)) (guides : ℕ) (file plan : List ℕ) (old new : LibraryState) (r : Result Answer Stop) (k : Command) → k ≡ command.Contract
+    → file ≡ word_at words 1 → plan ≡ word_at words 2
+    → Serves (λ files. PlanWork files file plan Contractions) (TaskAndPlan file plan) ⊥ old new r → ServesCommand words guides old new r k
+serves_contract words guides file plan old new r k is e p h = subst (ServesCommand words guides old new r) (sym is) (serves_one words file plan Contractions old new r e p h)
+
 two_names : (words : List (List ℕ)) (file one two : List ℕ) → file ≡ word_at words 1 → one ≡ word_at words 2 → two ≡ word_at words 3
     → (s : Subject) (name : List ℕ) → TaskAndPlans file one two s name → NamesTwo words s name
 two_names words file one two e p q s name (inl o) = subst (λ t. NamesTwo words t name) (sym o.0) (o.1 ∙ e)
 two_names words file one two e p q s name (inr (inl o)) = subst (λ t. NamesTwo words t name) (sym o.0) (o.1.0 ∙ p, λ k. o.1.1 (p ∙ k))
 two_names words file one two e p q s name (inr (inr o)) = subst (λ t. NamesTwo words t name) (sym o.0) (o.1.0 ∙ q, λ k. o.1.1 (q ∙ k))
 
-pub serves_same : (words : List (List ℕ)) (file one two : List ℕ) (old new : LibraryState) (r : Result Answer Stop)
+serves_two : (words : List (List ℕ)) (file one two : List ℕ) (old new : LibraryState) (r : Result Answer Stop)
     → file ≡ word_at words 1 → one ≡ word_at words 2 → two ≡ word_at words 3
     → Serves (λ files. SameWork files file one two) (TaskAndPlans file one two) ⊥ old new r
     → Serves (λ files. SameWork files (word_at words 1) (word_at words 2) (word_at words 3)) (NamesTwo words) ⊥ old new r
-serves_same words file one two old new r e p q h =
+serves_two words file one two old new r e p q h =
     Serves-more (λ files. SameWork files file one two) (λ files. SameWork files (word_at words 1) (word_at words 2) (word_at words 3)) (TaskAndPlans file one two) (NamesTwo words) ⊥ old new r
     (λ files o w. subst (λ f. SameWork files f (word_at words 2) (word_at words 3) o) e (subst (λ p. SameWork files file p (word_at words 3) o) p (subst (λ q. SameWork files file one q o) q w)))
     (two_names words file one two e p q) h
+
+pub serves_same : (words : List (List ℕ)) (guides : ℕ) (file one two : List ℕ) (old new : LibraryState) (r : Result Answer Stop) (k : Command) → k ≡ command.Same
+    → file ≡ word_at words 1 → one ≡ word_at words 2 → two ≡ word_at words 3
+    → Serves (λ files. SameWork files file one two) (TaskAndPlans file one two) ⊥ old new r → ServesCommand words guides old new r k
+serves_same words guides file one two old new r k is e p q h = subst (ServesCommand words guides old new r) (sym is) (serves_two words file one two old new r e p q h)
 
 -- ---- trials
 
@@ -144,12 +199,22 @@ told_guide guides W names library status text b (inr (some, w)) =
     (λ x. absurd x, λ k. absurd (omega (arith, k, some))) (all_held library.held (λ files o v. inr (some, v))) (λ s name n. n)
     (behind_is_answer (λ files. W) names library library status text (b status text w) (all_held library.held (λ files. w)))
 
-pub serves_trial : (guides : ℕ) (W : Outcome → Type 0) (names : Subject → List ℕ → Type 0) (library : LibraryState) (r : Result Answer Stop)
+serves_told_guide : (guides : ℕ) (W : Outcome → Type 0) (names : Subject → List ℕ → Type 0) (library : LibraryState) (r : Result Answer Stop)
     → ((status : Status) (text : List ℕ) → W (Answers status text) → IsBehind status text)
     → Tells (Guided guides 0 W) r → Serves (λ files. Guided guides 0 W) names (guides ≤ 0) library library r
-serves_trial guides W names library (Ok answer) b h = told_guide guides W names library (answer_status answer) (answer_text answer) b h
-serves_trial guides W names library (Err (Told answer)) b h = told_guide guides W names library (answer_status answer) (answer_text answer) b h
-serves_trial guides W names library (Err OutOfMemory) b h = h
+serves_told_guide guides W names library (Ok answer) b h = told_guide guides W names library (answer_status answer) (answer_text answer) b h
+serves_told_guide guides W names library (Err (Told answer)) b h = told_guide guides W names library (answer_status answer) (answer_text answer) b h
+serves_told_guide guides W names library (Err OutOfMemory) b h = h
 
-pub trial_is_behind : (n : ℕ) (bytes : List ℕ) (status : Status) (text : List ℕ) → TaskRead bytes (Tries n) (Answers status text) → IsBehind status text
+trial_is_behind : (n : ℕ) (bytes : List ℕ) (status : Status) (text : List ℕ) → TaskRead bytes (Tries n) (Answers status text) → IsBehind status text
 trial_is_behind n bytes status text h = read_is_behind bytes (Tries n) status text (λ g w. tries_is_behind n g status text w) h
+
+pub serves_trial : (words : List (List ℕ)) (guides n : ℕ) (library : LibraryState) (r : Result Answer Stop) (k : Command) → k ≡ command.Trial n
+    → Tells (Guided guides 0 (TaskRead (trial_text n) (Tries n))) r → ServesCommand words guides library library r k
+serves_trial words guides n library r k is h =
+    subst (ServesCommand words guides library library r) (sym is)
+    (serves_told_guide guides (TaskRead (trial_text n) (Tries n)) (Names words (command.Trial n)) library r (trial_is_behind n (trial_text n)) h)
+
+pub tries_by : (n : ℕ) (g : GroundTask) (trial : Trial) → IsTrial n g trial → Tries n g (answers (Tried trial))
+unfolding Tries
+tries_by n g trial h = (trial, h, refl)

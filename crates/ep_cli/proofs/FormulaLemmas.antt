@@ -103,10 +103,9 @@ unfolding FormulaWord
 FormulaWord-short g word (Told answer) l h = inr (l, h)
 FormulaWord-short g word OutOfMemory l h = h
 
-pub FormulaWord-behind : (g : GroundTask) (word : List ℕ) (f : Node) (P : Node → Outcome → Type 0) (o : Outcome) → length word ≤ 1048576
-    → IsFormulaOf g word f → P f o → FormulaWord g word P o
+pub FormulaWord-behind : (g : GroundTask) (word : List ℕ) (f : Node) (P : Node → Outcome → Type 0) (o : Outcome) → IsFormulaOf g word f → P f o → FormulaWord g word P o
 unfolding FormulaWord
-FormulaWord-behind g word f P o l is h = inr (l, FormulaRead-behind g word f P o is h)
+FormulaWord-behind g word f P o is h = inr (is.few, FormulaRead-behind g word f P o is h)
 
 pub formula_is_behind : (g : GroundTask) (word : List ℕ) (P : Node → Outcome → Type 0) (status : Status) (text : List ℕ)
     → ((f : Node) → P f (Answers status text) → IsBehind status text)

@@ -26,6 +26,7 @@ use Rattle.ep_cli.specs.declared.cause.Subject.{Subject}
 use Rattle.ep_cli.specs.declared.cause.Subject.TheVariants.{Task}
 use Rattle.ep_cli.specs.declared.status.Status.{Status}
 use Rattle.ep_cli.specs.declared.status.Status.TheVariants.{ReadFault}
+use Rattle.ep_cli.specs.declared.status.Status.TheVariants as done
 use Rattle.ep_cli.specs.Answer.{answer_status, answer_text}
 use Rattle.ep_cli.specs.Commands.{CommandWork, Guided, LacksGuide, Misuses, Names, Work, word_at}
 use Rattle.ep_cli.specs.Results.{Checks, Plans}
@@ -33,7 +34,8 @@ use Rattle.ep_cli.specs.Run.{GoesOn, IsAnswerOf, IsAnswer, NamesFile}
 use Rattle.ep_cli.specs.Served.{Outcome, Answers, StopsAt, Sized, Fetched, TaskRead, TaskFile, TellsCause, IsCauseOf, Grounded, answers, place_at}
 use Rattle.ep_cli.specs.Steps.{OnlyFile, IsFetched, IsTaskOf, IsTaskFile, StopsAtFetch, StopsAtTask, Serves, StopsAnswer, StopsBy, StopsWork, nothing_behind}
 use Rattle.ep_cli.proofs.Steps.{Fetched-weaker, TaskRead-weaker, TaskRead-behind}
-use Rattle.ep_cli.proofs.Told.{IsBehind, no_guide_no_fetch, refusal_is_behind, usage_no_fetch}
+use Rattle.ep_cli.specs.Guides.{NeedsGuide, StopNeeds}
+use Rattle.ep_cli.proofs.Told.{IsBehind, IsBehindFetch, no_guide_no_fetch, refusal_is_behind, usage_no_fetch}
 
 pub some_map : {A : Type 0} {P Q : A → Type 0} (o : Option A) → ((x : A) → P x → Q x) → IfSome o P → IfSome o Q
 some_map None f h = h
@@ -94,47 +96,58 @@ behind_is_answer work names old new status text b h = record {
 
 -- ---- refusals of the reading of a task
 
-cause_is_behind : (found : Lexed) (e : GroundError) (status : Status) (text : List ℕ) → TellsCause found e (Answers status text) → IsBehind status text
-cause_is_behind found (fault.TooManyObjects n) status text h = refusal_is_behind status text Task (cause.TooManyObjects n) tt (subst (λ c. Answers status text ≡ answers (Refused Task c)) h.1 h.2)
-cause_is_behind found fault.NoAgent status text h = refusal_is_behind status text Task cause.NoAgent tt (subst (λ c. Answers status text ≡ answers (Refused Task c)) h.1 h.2)
-cause_is_behind found (fault.TooManyAgents n) status text h = refusal_is_behind status text Task (cause.TooManyAgents n) tt (subst (λ c. Answers status text ≡ answers (Refused Task c)) h.1 h.2)
-cause_is_behind found (fault.TooManyAtoms n) status text h = refusal_is_behind status text Task (cause.TooManyAtoms n) tt (subst (λ c. Answers status text ≡ answers (Refused Task c)) h.1 h.2)
-cause_is_behind found (fault.TooManyActions n) status text h = refusal_is_behind status text Task (cause.TooManyActions n) tt (subst (λ c. Answers status text ≡ answers (Refused Task c)) h.1 h.2)
-cause_is_behind found (fault.TooManyEvents s n) status text h = refusal_is_behind status text Task (cause.TooManyEvents n) tt (subst (λ c. Answers status text ≡ answers (Refused Task c)) h.1 h.2)
-cause_is_behind found (fault.TooLargeFormula t) status text h = refusal_is_behind status text Task (cause.TooLarge (place_at found t)) tt (subst (λ c. Answers status text ≡ answers (Refused Task c)) h.1 h.2)
-cause_is_behind found (fault.TooLargeTask n) status text h = refusal_is_behind status text Task (cause.TooLargeTask n) tt (subst (λ c. Answers status text ≡ answers (Refused Task c)) h.1 h.2)
-cause_is_behind found (fault.AtomTwice name) status text h = refusal_is_behind status text Task (cause.AtomTwice name) tt (subst (λ c. Answers status text ≡ answers (Refused Task c)) h.1 h.2)
-cause_is_behind found (fault.TooManyVaried n) status text h = refusal_is_behind status text Task (cause.TooManyVaried n) tt (subst (λ c. Answers status text ≡ answers (Refused Task c)) h.1 h.2)
-cause_is_behind found (fault.TooManyWorlds n) status text h = refusal_is_behind status text Task (cause.TooManyWorlds n) tt (subst (λ c. Answers status text ≡ answers (Refused Task c)) h.1 h.2)
-cause_is_behind found fault.NoDesignated status text h = refusal_is_behind status text Task cause.NoDesignated tt (subst (λ c. Answers status text ≡ answers (Refused Task c)) h.1 h.2)
-cause_is_behind found fault.OutOfMemory status text h = absurd h.1
+-- what follows from a refusal behind the fetch
+abbrev pub FromRefusal : Status → List ℕ → Type 0 → Type 0
+FromRefusal status text R = (c : Cause) → IsBehindFetch c → Answers status text ≡ answers (Refused Task c) → R
 
-sound_option : (found : Lexed) (tree : TaskTree) (P : GroundTask → Outcome → Type 0) (status : Status) (text : List ℕ) (first : Option GroundError)
-    → ((g : GroundTask) → P g (Answers status text) → IsBehind status text)
-    → MatchOption first (P (task_of tree) (Answers status text)) (λ e. TellsCause found e (Answers status text)) → IsBehind status text
-sound_option found tree P status text None f h = f (task_of tree) h
-sound_option found tree P status text (Some e) f h = cause_is_behind found e status text h
+module _ (status : Status) (text : List ℕ) (R : Type 0) (refused : FromRefusal status text R) where
+  by_cause : (found : Lexed) (e : GroundError) → TellsCause found e (Answers status text) → R
+  by_cause found (fault.TooManyObjects n) h = refused (cause.TooManyObjects n) tt (subst (λ c. Answers status text ≡ answers (Refused Task c)) h.1 h.2)
+  by_cause found fault.NoAgent h = refused cause.NoAgent tt (subst (λ c. Answers status text ≡ answers (Refused Task c)) h.1 h.2)
+  by_cause found (fault.TooManyAgents n) h = refused (cause.TooManyAgents n) tt (subst (λ c. Answers status text ≡ answers (Refused Task c)) h.1 h.2)
+  by_cause found (fault.TooManyAtoms n) h = refused (cause.TooManyAtoms n) tt (subst (λ c. Answers status text ≡ answers (Refused Task c)) h.1 h.2)
+  by_cause found (fault.TooManyActions n) h = refused (cause.TooManyActions n) tt (subst (λ c. Answers status text ≡ answers (Refused Task c)) h.1 h.2)
+  by_cause found (fault.TooManyEvents s n) h = refused (cause.TooManyEvents n) tt (subst (λ c. Answers status text ≡ answers (Refused Task c)) h.1 h.2)
+  by_cause found (fault.TooLargeFormula t) h = refused (cause.TooLarge (place_at found t)) tt (subst (λ c. Answers status text ≡ answers (Refused Task c)) h.1 h.2)
+  by_cause found (fault.TooLargeTask n) h = refused (cause.TooLargeTask n) tt (subst (λ c. Answers status text ≡ answers (Refused Task c)) h.1 h.2)
+  by_cause found (fault.AtomTwice name) h = refused (cause.AtomTwice name) tt (subst (λ c. Answers status text ≡ answers (Refused Task c)) h.1 h.2)
+  by_cause found (fault.TooManyVaried n) h = refused (cause.TooManyVaried n) tt (subst (λ c. Answers status text ≡ answers (Refused Task c)) h.1 h.2)
+  by_cause found (fault.TooManyWorlds n) h = refused (cause.TooManyWorlds n) tt (subst (λ c. Answers status text ≡ answers (Refused Task c)) h.1 h.2)
+  by_cause found fault.NoDesignated h = refused cause.NoDesignated tt (subst (λ c. Answers status text ≡ answers (Refused Task c)) h.1 h.2)
+  by_cause found fault.OutOfMemory h = absurd h.1
 
-ground_is_behind : (found : Lexed) (tree : TaskTree) (P : GroundTask → Outcome → Type 0) (status : Status) (text : List ℕ)
-    → ((g : GroundTask) → P g (Answers status text) → IsBehind status text) → Grounded found tree P (Answers status text) → IsBehind status text
-ground_is_behind found tree P status text f h = sound_option found tree P status text (fault_of (declarations tree) tree) f h
+  by_ground : (found : Lexed) (tree : TaskTree) (P : GroundTask → Outcome → Type 0) (first : Option GroundError) → ((g : GroundTask) → P g (Answers status text) → R)
+      → MatchOption first (P (task_of tree) (Answers status text)) (λ e. TellsCause found e (Answers status text)) → R
+  by_ground found tree P None f h = f (task_of tree) h
+  by_ground found tree P (Some e) f h = by_cause found e h
 
-read_option : (found : Lexed) (tree : TaskTree) (P : GroundTask → Outcome → Type 0) (status : Status) (text : List ℕ) (first : Option (TypeFault × ℕ))
-    → ((g : GroundTask) → P g (Answers status text) → IsBehind status text)
-    → MatchOption first (Grounded found tree P (Answers status text)) (λ fault. Answers status text ≡ answers (Refused Task (cause.Mistyped fault.0 (place_at found fault.1))))
-    → IsBehind status text
-read_option found tree P status text None f h = ground_is_behind found tree P status text f h
-read_option found tree P status text (Some fault) f h = refusal_is_behind status text Task (cause.Mistyped fault.0 (place_at found fault.1)) tt h
+  by_types : (found : Lexed) (tree : TaskTree) (P : GroundTask → Outcome → Type 0) (first : Option (TypeFault × ℕ)) → ((g : GroundTask) → P g (Answers status text) → R)
+      → MatchOption first (Grounded found tree P (Answers status text)) (λ fault. Answers status text ≡ answers (Refused Task (cause.Mistyped fault.0 (place_at found fault.1)))) → R
+  by_types found tree P None f h = by_ground found tree P (fault_of (declarations tree) tree) f h
+  by_types found tree P (Some fault) f h = refused (cause.Mistyped fault.0 (place_at found fault.1)) tt h
+
+  -- the text is refused, or what stands behind the reading is told
+  pub by_reading : (bytes : List ℕ) (P : GroundTask → Outcome → Type 0) → ((g : GroundTask) → P g (Answers status text) → R) → TaskRead bytes P (Answers status text) → R
+  unfolding TaskRead
+  by_reading bytes P f (inl stray) = refused (cause.StrayByte stray.0) tt stray.2
+  by_reading bytes P f (inr (inl many)) = refused cause.TooManyTokens tt many.1
+  by_reading bytes P f (inr (inr (found, lexed, inl syntax))) = refused (cause.Syntax (place_at found syntax.0)) tt syntax.2
+  by_reading bytes P f (inr (inr (found, lexed, inr (inl deep)))) = refused (cause.TooDeep (place_at found deep.0)) tt deep.2
+  by_reading bytes P f (inr (inr (found, lexed, inr (inr (tree, reads, h))))) = by_types found tree P (first_fault (task_uses tree)) f h
 
 pub read_is_behind : (bytes : List ℕ) (P : GroundTask → Outcome → Type 0) (status : Status) (text : List ℕ)
     → ((g : GroundTask) → P g (Answers status text) → IsBehind status text)
     → TaskRead bytes P (Answers status text) → IsBehind status text
-unfolding TaskRead
-read_is_behind bytes P status text f (inl stray) = refusal_is_behind status text Task (cause.StrayByte stray.0) tt stray.2
-read_is_behind bytes P status text f (inr (inl many)) = refusal_is_behind status text Task cause.TooManyTokens tt many.1
-read_is_behind bytes P status text f (inr (inr (found, lexed, inl syntax))) = refusal_is_behind status text Task (cause.Syntax (place_at found syntax.0)) tt syntax.2
-read_is_behind bytes P status text f (inr (inr (found, lexed, inr (inl deep)))) = refusal_is_behind status text Task (cause.TooDeep (place_at found deep.0)) tt deep.2
-read_is_behind bytes P status text f (inr (inr (found, lexed, inr (inr (tree, reads, h))))) = read_option found tree P status text (first_fault (task_uses tree)) f h
+read_is_behind bytes P status text f h = by_reading status text (IsBehind status text) (λ c b e. refusal_is_behind status text Task c b e) bytes P f h
+
+needs_none : (status : Status) (text : List ℕ) (c : Cause) → Answers status text ≡ answers (Refused Task c) → NeedsGuide status text → ⊥
+needs_none status text c e n = let p : status ≡ done.Refused = cc in absurd (subst (λ s. NeedsGuide s text) p n)
+
+-- a refusal rests on no guide
+pub read_needs_none : (bytes : List ℕ) (stop : Stop) → StopsBy (TaskRead bytes nothing_behind) stop → StopNeeds stop → ⊥
+read_needs_none bytes (Told answer) h n =
+    by_reading (answer_status answer) (answer_text answer) ⊥ (λ c b e. needs_none (answer_status answer) (answer_text answer) c e n) bytes nothing_behind (λ g none. absurd none) h
+read_needs_none bytes OutOfMemory h n = absurd n
 
 -- ---- the ground task of a file
 

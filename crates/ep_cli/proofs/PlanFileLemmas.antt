@@ -16,6 +16,7 @@ use Rattle.ep_cli.specs.declared.cause.Cause.{Cause}
 use Rattle.ep_cli.specs.declared.cause.Cause.TheVariants as cause
 use Rattle.ep_cli.specs.declared.cause.Place.{Place}
 use Rattle.ep_cli.specs.declared.cause.Subject.{Subject}
+use Rattle.ep_cli.specs.declared.run_stop.RunStop.{RunStop}
 use Rattle.ep_cli.specs.declared.run_stop.Whose.{Whose}
 use Rattle.ep_cli.specs.declared.status.Status.{Status}
 use Rattle.ep_cli.specs.Answer.{answer_status, answer_text}
@@ -121,3 +122,10 @@ pub ran_is_behind : (whose : Whose) (g : GroundTask) (plan : List ActionId) (P :
 unfolding Ran
 ran_is_behind whose g plan P status text f (inl (stop, stops, told)) = stopped_is_behind whose stop status text told
 ran_is_behind whose g plan P status text f (inr p) = f p.0 p.2
+
+abbrev StopsRan : Whose → GroundTask → List ActionId → Stop → Type 0
+StopsRan whose g plan = StopsBy (Ran whose g plan nothing_behind)
+
+pub ran_stops : (whose : Whose) (g : GroundTask) (plan : List ActionId) (stop : RunStop) (s : Stop) → RunStops g plan stop → s ≡ Told (Stopped whose stop) → StopsRan whose g plan s
+unfolding Ran
+ran_stops whose g plan stop s r e = subst (StopsRan whose g plan) (sym e) (inl (stop, r, refl))

@@ -8,7 +8,7 @@ use Rattle.ep_logic.specs.declared.formula.Node.{Node}
 use Rattle.ep_theory.specs.Kripke.{Kripke}
 use Rattle.ep_theory.specs.Fits.{Fits}
 use Rattle.ep_theory.specs.Product.{product_of}
-use Rattle.ep_problem.specs.PlanningTask.{PlanningTask, IsPlanningTask}
+use Rattle.ep_problem.specs.PlanningTask.{PlanningTask, IsPlanningTask, IsSmall}
 use Rattle.ep_problem.specs.Plans.{after}
 use Rattle.ep_problem.proofs.Steps.{step_some}
 use Rattle.ep_problem.proofs.Runs.{after-snoc, after_state}
@@ -39,8 +39,8 @@ last_made T p n S t e m leaves =
     let step = (step_some T m.state (product_of m.state m.action) m.next.place state).1 (m.action, m.next.action, m.applicable, refl) in
     let whole : take (n + 1) p ≡ p = take_all (n + 1) p (omega (arith, e)) in
     let longer : take (n + 1) p ≡ take n p ++ m.next.place ∷ [] =
-        take_more p n m.next.place (slice_get_within p n m.next.place m.next.listed)
-        ∙ ap (λ x. take n p ++ x ∷ []) (get_or_from_slice_get p n m.next.place m.next.place m.next.listed) in
+    take_more p n m.next.place (slice_get_within p n m.next.place m.next.listed)
+    ∙ ap (λ x. take n p ++ x ∷ []) (get_or_from_slice_get p n m.next.place m.next.place m.next.listed) in
     let product : after T p ≡ Some (product_of m.state m.action) = ap (after T) (sym whole ∙ longer) ∙ after-snoc T (take n p) m.next.place m.state (product_of m.state m.action) m.next.leaves step in
     let is : product_of m.state m.action ≡ S = same_Some (product_of m.state m.action) S (sym product ∙ leaves) in
     subst (λ (R : Kripke). R.worlds ≤ 4096) is m.within.worlds
@@ -49,14 +49,19 @@ small : (T : PlanningTask) (p : List ActionId) (n : ℕ) (S : Kripke) → length
 small T [] n S e t w r = let is : T.initial ≡ S = same_Some T.initial S r.leaves in subst (λ (R : Kripke). R.worlds ≤ 4096) is (omega (arith, w))
 small T (a ∷ p) n S e t w r = last_made T (a ∷ p) (length p) S t (omega arith) (r.made (length p) (omega arith)) r.leaves
 
-pub left_of_run : (g : GroundTask) (plan : List ActionId) (o : Outcome) (S : Kripke) → IsNamed g → IsPlanningTask g.problem → g.problem.initial.worlds ≤ 256
-    → RunUnder g.problem plan run_size o → o ≡ After S → IsLeft g plan S
-left_of_run g plan o S named t w run is =
-    let r = subst (RunUnder g.problem plan run_size) is run in
+-- the run's outcome, for the problem of the task
+pub run_is : (g : GroundTask) (plan : List ActionId) (o out : Outcome) (T : PlanningTask) → T ≡ g.problem → RunUnder T plan run_size o → o ≡ out → RunUnder g.problem plan run_size out
+run_is g plan o out T e run is = subst (λ (T : PlanningTask). RunUnder T plan run_size out) e (subst (RunUnder T plan run_size) is run)
+
+pub left_of_run : (g : GroundTask) (plan : List ActionId) (o : Outcome) (S : Kripke) (T : PlanningTask) → IsNamed g → T ≡ g.problem → IsPlanningTask T → IsSmall T
+    → RunUnder T plan run_size o → o ≡ After S → IsLeft g plan S
+left_of_run g plan o S T named e valid few run is =
+    let t = subst IsPlanningTask e valid in
+    let r : RunUnder g.problem plan run_size (After S) = run_is g plan o (After S) T e run is in
     let among = after_state g.problem plan S t r.leaves in
     record {
       run = r;
-      worlds = small g.problem plan (length plan) S refl t w r;
+      worlds = small g.problem plan (length plan) S refl t (subst IsSmall e few).worlds r;
       agents = among.1;
       atoms = among.2;
       named_agents = among.1 ∙ sym named.agents;

@@ -144,6 +144,7 @@ pub record IsFormOf (g : GroundTask) (tree : FormulaTree) (f : Node) : Type 0 wh
 
 -- the formula of a text
 pub record IsFormulaOf (g : GroundTask) (text : List ℕ) (f : Node) : Type 0 where
+  pub few : length text ≤ file_limit
   pub found : Lexed
   pub tree : FormulaTree
   pub lexed : AreLexed text found

@@ -100,9 +100,7 @@ impl fmt::Display for Answer {
                 write!(f, "true at {count} of {designated}\n")
             }
             Answer::Shown(state) => write!(f, "{}", Plain(state)),
-            Answer::Contraction { state, bytes } => {
-                write!(f, "{}bytes {bytes}\n", Plain(state))
-            }
+            Answer::Contraction { state, bytes } => { write!(f, "{}bytes {bytes}\n", Plain(state)) }
             Answer::Bisimilar => f.write_str("bisimilar\n"),
             Answer::Different => f.write_str("different\n"),
             Answer::Tried(trial) => write!(f, "{trial}"),

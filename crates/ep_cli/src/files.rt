@@ -1,5 +1,6 @@
 // The files that a command names.
-ghost use Rattle.std.specs.Prelude.{MatchResult};
+ghost use Rattle.std.specs.Prelude.{IfErr, MatchResult};
+ghost use Rattle.ep_cli.specs.Guides.{StopNeeds};
 ghost use Rattle.ep_cli.specs.Run.{GoesOn};
 ghost use Rattle.ep_cli.specs.Steps.{IsFetched, IsTaskFile, StopsAtFetch, StopsAtTask};
 
@@ -23,6 +24,7 @@ pub fn fetch_file<L: Library>(
     ensures fetched { MatchResult result
         (λ bytes. IsFetched (L.library files.old) name.now bytes.items)
         (StopsAtFetch (L.library files.old) (L.library files.new) subject name.now) }
+    ensures needs { IfErr result (λ stop. StopNeeds stop → ⊥) }
 {
     let mut bytes = Vec::new(alloc);
     match files.fetch(name, FILE_LIMIT, &mut bytes) {
@@ -40,6 +42,7 @@ pub fn task_file<L: Library>(alloc: Global, files: &mut L, name: &str) -> Result
     ensures task { MatchResult result
         (IsTaskFile (L.library files.old) name.now)
         (StopsAtTask (L.library files.old) (L.library files.new) name.now) }
+    ensures needs { IfErr result (λ stop. StopNeeds stop → ⊥) }
 {
     let bytes = fetch_file(alloc, files, Subject::Task, name)?;
     read_task(alloc, &bytes)

@@ -41,7 +41,12 @@ fn formula_tree(alloc: Global, text: &[u8], found: &TokenList) -> Result<Formula
     }
 }
 
-fn formed(alloc: Global, task: &Task, found: &TokenList, tree: &FormulaTree) -> Result<Formula, Stop>
+fn formed(
+    alloc: Global,
+    task: &Task,
+    found: &TokenList,
+    tree: &FormulaTree,
+) -> Result<Formula, Stop>
     requires formed { IsFormedFormula tree.now }
     requires shallow { IsShallow (formulas.marks tree.now) }
     ensures { MatchResult result (IsFormOf task.now tree.now)

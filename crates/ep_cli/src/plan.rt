@@ -1,8 +1,10 @@
 // `plan FILE` and its options.
 ghost use Rattle.std.specs.Prelude.{◌≡◌, ◌<◌, ◌≤◌, IfOk, length};
-ghost use Rattle.ep_search.specs.Allowed.{Allowed};
+ghost use Rattle.ep_guide.specs.Asked.{Rose};
+ghost use Rattle.ep_search.specs.Allowed.{Allowed, WasAsked};
 ghost use Rattle.ep_search.specs.Limits.{IsBounds};
 ghost use Rattle.ep_cli.specs.Commands.{Guided};
+ghost use Rattle.ep_cli.specs.Guides.{AnswerNeeds, IsWhole, ResultNeeds, WasAskedAt};
 ghost use Rattle.ep_cli.specs.Results.{HasItsActions, Plans, mode_of, planned_of, search_bounds};
 ghost use Rattle.ep_cli.specs.Run.{GoesOn};
 ghost use Rattle.ep_cli.specs.Served.{TaskFile, answers};
@@ -25,7 +27,12 @@ use std::marker::Brand;
 use std::sync::ledger::{Blank, Ledger};
 
 /// What is told of an answer of the search to a depth.
-pub fn planned(alloc: Global, task: &Task, depth: u32, found: &Found) -> Result<Planned, OutOfMemory>
+pub fn planned(
+    alloc: Global,
+    task: &Task,
+    depth: u32,
+    found: &Found,
+) -> Result<Planned, OutOfMemory>
     requires { HasItsActions task.now found.now }
     ensures { IfOk result (λ planned. planned ≡ planned_of task.now depth found.now) }
 {
@@ -57,6 +64,7 @@ fn searched<L: Ledger>(
     requires parts { blank.parts ≡ L.parts }
     requires some { 0 < L.parts }
     ensures allowed { IfOk result (Allowed problem.now bounds.depth bounds.states bounds.worlds mode) }
+    ensures asked { IfOk result (λ found. WasAsked bounds.depth found (asked guide.old) (asked guide.new)) }
 {
     let mut steps = Steps::<L>::new(blank);
     search(alloc, problem, bounds, mode, guide, &mut steps)
@@ -71,7 +79,8 @@ pub fn counted(
     guide: &mut Box<dyn Guide>,
 ) -> Result<Found, OutOfMemory>
     requires { IsBounds bounds }
-    ensures { IfOk result (Allowed problem.now bounds.depth bounds.states bounds.worlds mode) }
+    ensures allowed { IfOk result (Allowed problem.now bounds.depth bounds.states bounds.worlds mode) }
+    ensures asked { IfOk result (λ found. WasAsked bounds.depth found (asked guide.old) (asked guide.new)) }
 {
     searched::<Brand>(alloc, problem, bounds, mode, guide, Blank::new(1))
 }
@@ -100,8 +109,10 @@ fn answered(
     first: bool,
     guide: &mut Box<dyn Guide>,
 ) -> Result<Answer, OutOfMemory>
-    requires { IsBounds (search_bounds bounds) }
-    ensures { IfOk result (λ answer. Plans bounds first task.now (answers answer)) }
+    requires bounds { IsBounds (search_bounds bounds) }
+    requires whole { IsWhole task.now }
+    ensures plans { IfOk result (λ answer. Plans bounds first task.now (answers answer)) }
+    ensures asked { IfOk result (λ answer. 1 ≤ bounds.depth → AnswerNeeds answer → Rose (asked guide.old) (asked guide.new)) }
 {
     let _actions = task.actions();
     let found = counted(alloc, task.problem(), limits(bounds), mode(first), guide)?;
@@ -121,6 +132,7 @@ fn plan<L: Library>(
     requires { IsBounds (search_bounds bounds) }
     ensures goes_on { GoesOn (L.library files.old) (L.library files.new) }
     ensures answer { Serves (λ held. TaskFile held file.now (Plans bounds first)) (OnlyFile OfTask file.now) ⊥ (L.library files.old) (L.library files.new) result }
+    ensures asked { 1 ≤ bounds.depth → ResultNeeds result → Rose (asked guide.old) (asked guide.new) }
 {
     let task = task_file(alloc, files, file)?;
     let answered = answered(alloc, &task, bounds, first, guide);
@@ -142,6 +154,7 @@ pub fn guided<L: Library>(
     requires { IsBounds (search_bounds bounds) }
     ensures goes_on { GoesOn (L.library files.old) (L.library files.new) }
     ensures answer { Serves (λ held. Guided (length guides.old.items) place (TaskFile held file.now (Plans bounds first))) (OnlyFile OfTask file.now) (length guides.old.items ≤ place) (L.library files.old) (L.library files.new) result }
+    ensures asked { 1 ≤ bounds.depth → ResultNeeds result → WasAskedAt (λ g. asked g) guides.old.items guides.new.items place }
 {
     if place >= guides.len() {
         return Ok(Answer::NoSuchGuide);

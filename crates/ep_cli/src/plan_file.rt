@@ -108,7 +108,9 @@ fn run(alloc: Global, problem: &Problem, plan: &Plan) -> Result<Outcome, OutOfMe
     run_on::<Brand>(alloc, problem, plan, Blank::new(1))
 }
 
-fn stopped(whose: Whose, stop: RunStop) -> Stop {
+fn stopped(whose: Whose, stop: RunStop) -> Stop
+    ensures { result ≡ Stop.Told (Answer.Stopped whose stop) }
+{
     Stop::Told(Answer::Stopped(whose, stop))
 }
 

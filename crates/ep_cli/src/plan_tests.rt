@@ -1,28 +1,31 @@
 use crate::tests::{library_of_plans, ran};
 use crate::worked::{COIN, FAR, LETTER, LONE, MSG, SWAP, TWO, WAIT};
-use ep_io::MemorySink;
+use ep_io::{MemoryLibrary, MemorySink};
 use ep_logic::List;
 use std::alloc::Global;
 use std::process::Abort;
 use std::test::Fail;
 
 // Words, the task `t`, the plan file `a`, and what is answered.
-type Row = (&'static [&'static str], &'static str, &'static str, u8, &'static str);
+type Row = (
+    &'static [&'static str],
+    &'static str,
+    &'static str,
+    u8,
+    &'static str,
+);
 
-// What the words answer for a task and two plan files, where some fetches fail.
+// What the words answer over these files.
 fn told(
     rt: &impl Abort,
     alloc: Global,
+    files: &mut MemoryLibrary,
     words: &[&str],
-    task: &str,
-    plans: [&str; 2],
-    failing: &[u32],
     code: u8,
     text: &str,
 ) -> Result<(), Fail> {
-    let mut files = library_of_plans(alloc, task, plans, failing)?;
     let mut out = MemorySink::new(alloc, 1000, List::from_vec(Vec::new(alloc)))?;
-    let status = ran(alloc, words, &mut files, &mut out)?;
+    let status = ran(alloc, words, files, &mut out)?;
     assert_eq!(rt; out.bytes(), text.as_bytes(), "{text}");
     assert_eq!(rt; status.code(), code, "{text}");
     Ok(())
@@ -30,7 +33,8 @@ fn told(
 
 fn serves(rt: &impl Abort, alloc: Global, rows: &[Row]) -> Result<(), Fail> {
     for (words, task, plan, code, text) in rows {
-        told(rt, alloc, words, task, [plan, plan], &[], *code, text)?;
+        let mut files = library_of_plans(alloc, task, [plan, ""], &[])?;
+        told(rt, alloc, &mut files, words, *code, text)?;
     }
     Ok(())
 }
@@ -76,8 +80,20 @@ const VALIDATED: [Row; 8] = [
         3,
         "refused: plan: unknown action at line 4\n",
     ),
-    (&["validate", "t", "a"], COIN, SAY, 3, "refused: plan: other task\n"),
-    (&["validate", "t", "u"], COIN, SAY, 3, "refused: plan: no such file\n"),
+    (
+        &["validate", "t", "a"],
+        COIN,
+        SAY,
+        3,
+        "refused: plan: other task\n",
+    ),
+    (
+        &["validate", "t", "u"],
+        COIN,
+        SAY,
+        3,
+        "refused: plan: no such file\n",
+    ),
 ];
 
 #[test]
@@ -86,30 +102,26 @@ fn plans_are_validated(rt: HostRuntime) -> Result<(), Fail> {
     Ok(())
 }
 
-// A plan for `wait_task` of so many calls of one action.
-fn calls(alloc: Global, count: u32, action: &str) -> Result<String, Fail> {
-    let mut plan = format!(in alloc; "plan 1\ntask wait_task\nactions {count}\n")?;
-    for _ in 0..count {
-        plan.push_str(format!(in alloc; "{action}\n")?.as_str())?;
-    }
-    plan.push_str("end\n")?;
-    Ok(plan)
+// A plan that waits so often.
+fn waits(alloc: Global, count: u32) -> Result<String, Fail> {
+    let calls = "wait\n".repeat(alloc, count as usize)?;
+    Ok(format!(in alloc; "plan 1\ntask wait_task\nactions {count}\n{calls}end\n")?)
 }
 
-// Each call doubles the worlds, and `blur` gives each a link to each.
+// Each call doubles the worlds.
 #[test]
 fn long_runs_are_spent(rt: HostRuntime) -> Result<(), Fail> {
     let alloc = rt.alloc();
-    let rows: [(&str, u32, &str, u8, &str); 5] = [
-        ("validate", 16, "wait", 1, "no: goal\n"),
-        ("validate", 17, "wait", 7, "spent: step 17, worlds 131072\n"),
-        ("validate", 13, "blur", 7, "spent: step 13, links 67108864\n"),
-        ("contract", 3, "wait", 0, WAITED),
-        ("state", 13, "wait", 7, "spent: step 13, worlds 8192\n"),
+    let rows = [
+        ("validate", 16, 1, "no: goal\n"),
+        ("validate", 17, 7, "spent: step 17, worlds 131072\n"),
+        ("contract", 3, 0, WAITED),
+        ("state", 13, 7, "spent: step 13, worlds 8192\n"),
     ];
-    for (verb, count, action, code, text) in rows {
-        let plan = calls(alloc, count, action)?;
-        told(&rt, alloc, &[verb, "t", "a"], WAIT, [plan.as_str(), ""], &[], code, text)?;
+    for (verb, count, code, text) in rows {
+        let plan = waits(alloc, count)?;
+        let mut files = library_of_plans(alloc, WAIT, [plan.as_str(), ""], &[])?;
+        told(&rt, alloc, &mut files, &[verb, "t", "a"], code, text)?;
     }
     Ok(())
 }
@@ -118,10 +130,34 @@ const WAITED: &str =
     "worlds 1\natom done\nworld 0 0 designated\nlinks ann 0: 0\nbytes 0001010001000101\n";
 
 const EVALUATED: [Row; 11] = [
-    (&["eval", "t", "a", "(q and not p)"], SWAP, SWAPS, 0, "true at 1 of 1\n"),
-    (&["eval", "t", "a", "common {ann, bob} heads"], MSG, BOTH, 0, "true at 1 of 1\n"),
-    (&["eval", "t", "a", "common {ann, bob} heads"], MSG, ONLY, 0, "true at 0 of 1\n"),
-    (&["eval", "t", "-", "knows bob heads"], LONE, "", 0, "true at 1 of 1\n"),
+    (
+        &["eval", "t", "a", "(q and not p)"],
+        SWAP,
+        SWAPS,
+        0,
+        "true at 1 of 1\n",
+    ),
+    (
+        &["eval", "t", "a", "common {ann, bob} heads"],
+        MSG,
+        BOTH,
+        0,
+        "true at 1 of 1\n",
+    ),
+    (
+        &["eval", "t", "a", "common {ann, bob} heads"],
+        MSG,
+        ONLY,
+        0,
+        "true at 0 of 1\n",
+    ),
+    (
+        &["eval", "t", "-", "knows bob heads"],
+        LONE,
+        "",
+        0,
+        "true at 1 of 1\n",
+    ),
     (&["eval", "t", "-", "heads"], TWO, "", 0, "true at 1 of 2\n"),
     (
         &["eval", "t", "-", "knows carl heads"],
@@ -145,8 +181,20 @@ const EVALUATED: [Row; 11] = [
         "refused: formula: stray byte at 6\n",
     ),
     // The plan file is read before the formula, and run behind it.
-    (&["eval", "t", "a", "heads ?"], COIN, SAY, 3, "refused: plan: other task\n"),
-    (&["eval", "t", "a", "tails"], TWO, SAY, 3, "refused: formula: unknown name at token 0, line 1\n"),
+    (
+        &["eval", "t", "a", "heads ?"],
+        COIN,
+        SAY,
+        3,
+        "refused: plan: other task\n",
+    ),
+    (
+        &["eval", "t", "a", "tails"],
+        TWO,
+        SAY,
+        3,
+        "refused: formula: unknown name at token 0, line 1\n",
+    ),
     (&["eval", "t", "a", "heads"], TWO, SAY, 1, "no: step 1\n"),
 ];
 
@@ -224,22 +272,65 @@ fn states_are_shown(rt: HostRuntime) -> Result<(), Fail> {
 }
 
 // Words, the task, both plan files, and what is answered.
-type SameRow = (&'static [&'static str], &'static str, [&'static str; 2], u8, &'static str);
+type SameRow = (
+    &'static [&'static str],
+    &'static str,
+    [&'static str; 2],
+    u8,
+    &'static str,
+);
 
 const COMPARED: [SameRow; 6] = [
-    (&["same", "t", "-", "a"], COIN, [TWICE, ""], 0, "bisimilar\n"),
-    (&["same", "t", "a", "b"], FAR, [THREE, FOUR], 1, "different\n"),
-    (&["same", "t", "a", "-"], TWO, [SAY, ""], 1, "no: first plan, step 1\n"),
-    (&["same", "t", "-", "a"], TWO, [SAY, ""], 1, "no: second plan, step 1\n"),
+    (
+        &["same", "t", "-", "a"],
+        COIN,
+        [TWICE, ""],
+        0,
+        "bisimilar\n",
+    ),
+    (
+        &["same", "t", "a", "b"],
+        FAR,
+        [THREE, FOUR],
+        1,
+        "different\n",
+    ),
+    (
+        &["same", "t", "a", "-"],
+        TWO,
+        [SAY, ""],
+        1,
+        "no: first plan, step 1\n",
+    ),
+    (
+        &["same", "t", "-", "a"],
+        TWO,
+        [SAY, ""],
+        1,
+        "no: second plan, step 1\n",
+    ),
     // The first plan is run before the second file is fetched.
-    (&["same", "t", "a", "u"], TWO, [SAY, ""], 1, "no: first plan, step 1\n"),
-    (&["same", "t", "b", "u"], COIN, ["", PEEK], 3, "refused: second plan: no such file\n"),
+    (
+        &["same", "t", "a", "u"],
+        TWO,
+        [SAY, ""],
+        1,
+        "no: first plan, step 1\n",
+    ),
+    (
+        &["same", "t", "b", "u"],
+        COIN,
+        ["", PEEK],
+        3,
+        "refused: second plan: no such file\n",
+    ),
 ];
 
 #[test]
 fn states_are_compared(rt: HostRuntime) -> Result<(), Fail> {
     for (words, task, plans, code, text) in COMPARED {
-        told(&rt, rt.alloc(), words, task, plans, &[], code, text)?;
+        let mut files = library_of_plans(rt.alloc(), task, plans, &[])?;
+        told(&rt, rt.alloc(), &mut files, words, code, text)?;
     }
     Ok(())
 }
@@ -250,12 +341,25 @@ fn faults_name_their_file(rt: HostRuntime) -> Result<(), Fail> {
     let rows: [(&[&str], u32, &str); 5] = [
         (&["validate", "t", "a"], 0, "fault: task cannot be read\n"),
         (&["validate", "t", "a"], 1, "fault: plan cannot be read\n"),
-        (&["eval", "t", "a", "heads"], 1, "fault: plan cannot be read\n"),
-        (&["same", "t", "a", "b"], 1, "fault: first plan cannot be read\n"),
-        (&["same", "t", "a", "b"], 2, "fault: second plan cannot be read\n"),
+        (
+            &["eval", "t", "a", "heads"],
+            1,
+            "fault: plan cannot be read\n",
+        ),
+        (
+            &["same", "t", "a", "b"],
+            1,
+            "fault: first plan cannot be read\n",
+        ),
+        (
+            &["same", "t", "a", "b"],
+            2,
+            "fault: second plan cannot be read\n",
+        ),
     ];
     for (words, fetch, text) in rows {
-        told(&rt, rt.alloc(), words, COIN, [PEEK, PEEK], &[fetch], 4, text)?;
+        let mut files = library_of_plans(rt.alloc(), COIN, [PEEK, PEEK], &[fetch])?;
+        told(&rt, rt.alloc(), &mut files, words, 4, text)?;
     }
     Ok(())
 }
@@ -266,27 +370,55 @@ fn long_texts_are_refused(rt: HostRuntime) -> Result<(), Fail> {
     let alloc = rt.alloc();
     let blanks = " ".repeat(alloc, 1_048_577)?;
     let long = blanks.as_str();
-    told(&rt, alloc, &["validate", "t", "a"], COIN, [long, ""], &[], 3, "refused: plan: too long\n")?;
-    told(&rt, alloc, &["eval", "t", "-", long], COIN, ["", ""], &[], 3, "refused: formula: too long\n")?;
-    Ok(())
+    let mut files = library_of_plans(alloc, COIN, [long, ""], &[])?;
+    told(
+        &rt,
+        alloc,
+        &mut files,
+        &["validate", "t", "a"],
+        3,
+        "refused: plan: too long\n",
+    )?;
+    told(
+        &rt,
+        alloc,
+        &mut files,
+        &["eval", "t", "-", long],
+        3,
+        "refused: formula: too long\n",
+    )
 }
 
 // The task is read before the plan file is fetched.
 #[test]
 fn the_task_comes_first(rt: HostRuntime) -> Result<(), Fail> {
     let text = "refused: task: syntax at token 0, line 1\n";
-    told(&rt, rt.alloc(), &["validate", "t", "u"], "", ["", ""], &[], 3, text)?;
-    Ok(())
+    let mut files = library_of_plans(rt.alloc(), "", ["", ""], &[])?;
+    told(
+        &rt,
+        rt.alloc(),
+        &mut files,
+        &["validate", "t", "u"],
+        3,
+        text,
+    )
 }
 
 #[test]
 fn trials_are_told(rt: HostRuntime) -> Result<(), Fail> {
     let rows = [
-        ("1", "trial 1\nworlds 2\ncontracted 2\nshortest 1\nvalidator yes\n"),
-        ("3", "trial 3\nworlds 8\ncontracted 8\nshortest 3\nvalidator yes\n"),
+        (
+            "1",
+            "trial 1\nworlds 2\ncontracted 2\nshortest 1\nvalidator yes\n",
+        ),
+        (
+            "3",
+            "trial 3\nworlds 8\ncontracted 8\nshortest 3\nvalidator yes\n",
+        ),
     ];
     for (children, text) in rows {
-        told(&rt, rt.alloc(), &["trial", children], "", ["", ""], &[], 0, text)?;
+        let mut files = library_of_plans(rt.alloc(), "", ["", ""], &[])?;
+        told(&rt, rt.alloc(), &mut files, &["trial", children], 0, text)?;
     }
     Ok(())
 }

@@ -90,7 +90,11 @@ impl fmt::Display for Judgement {
                 write!(f, "{}", RunStop::Stuck { step }.of(Whose::Only))
             }
             Verdict::SpentWorlds { step, worlds } => {
-                write!(f, "{}", RunStop::SpentWorlds { step, worlds }.of(Whose::Only))
+                write!(
+                    f,
+                    "{}",
+                    RunStop::SpentWorlds { step, worlds }.of(Whose::Only)
+                )
             }
             Verdict::SpentLinks { step, links } => {
                 write!(f, "{}", RunStop::SpentLinks { step, links }.of(Whose::Only))

@@ -24,8 +24,7 @@ use ep_trial::trial_text;
 use std::alloc::Global;
 
 // The number of worlds of the contraction of the initial state.
-fn contracted(alloc: Global, task: &Task) -> Result<u32, OutOfMemory>
-{
+fn contracted(alloc: Global, task: &Task) -> Result<u32, OutOfMemory> {
     let canon = contract(alloc, task.problem().initial())?;
     Ok(canon.state().worlds())
 }
@@ -68,11 +67,7 @@ fn tried(
     })
 }
 
-fn trial(
-    alloc: Global,
-    children: u32,
-    guide: &mut Box<dyn Guide>,
-) -> Result<Answer, Stop>
+fn trial(alloc: Global, children: u32, guide: &mut Box<dyn Guide>) -> Result<Answer, Stop>
     requires { children ≤ 8 }
     ensures { Tells (TaskRead (trial_text children) (Tries children)) result }
 {

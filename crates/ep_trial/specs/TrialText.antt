@@ -18,16 +18,16 @@ abbrev pub child : ℕ → List ℕ
 child n = codes "c" ++ decimal n
 
 -- that a child is muddy
-abbrev pub muddy : ℕ → List ℕ
+unfoldable pub muddy : ℕ → List ℕ
 muddy n = codes "muddy ( " ++ child n ++ codes " )"
 
 -- a text for each child, with a space before each and a comma between neighbours
-abbrev pub listed : (ℕ → List ℕ) → List ℕ → List ℕ
+unfoldable pub listed : (ℕ → List ℕ) → List ℕ → List ℕ
 listed text children = join_by (λ n. codes " " ++ text n) (codes " ,") children
 
 -- ---- the lines
 
-abbrev pub declaration_lines : List ℕ → List (List ℕ)
+unfoldable pub declaration_lines : List ℕ → List (List ℕ)
 declaration_lines children =
     codes "task muddy ;"
     ∷ codes "types { child < agent ;"
@@ -43,11 +43,11 @@ abbrev pub vary_line : List ℕ → List ℕ
 vary_line children = codes "vary {" ++ listed muddy children ++ codes " }"
 
 -- a child sees the others, and not itself
-abbrev pub sees_line : List ℕ → ℕ → List ℕ
+unfoldable pub sees_line : List ℕ → ℕ → List ℕ
 sees_line children self = codes "sees { " ++ child self ++ codes " } {" ++ listed muddy (others children self) ++ codes " }"
 
 -- in truth all children are muddy
-abbrev pub initial_lines : List ℕ → List (List ℕ)
+unfoldable pub initial_lines : List ℕ → List (List ℕ)
 initial_lines children =
     codes "init {"
     ∷ vary_line children
@@ -55,7 +55,7 @@ initial_lines children =
     ∷ (map (sees_line children) children ++ codes "designated forall ( c : child ) muddy ( c ) ;" ∷ codes "}" ∷ [])
 
 -- the father's announcement; the question, to which no child knows the answer; the goal
-abbrev pub action_lines : List (List ℕ)
+unfoldable pub action_lines : List (List ℕ)
 action_lines =
     codes "action father { announce exists ( c : child ) muddy ( c ) ;"
     ∷ codes "}"

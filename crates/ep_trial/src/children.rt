@@ -6,10 +6,15 @@ ghost use Rattle.ep_trial.specs.TrialText as spec;
 use ep_logic::OutOfMemory;
 use std::alloc::Global;
 
+#[tactic(auto, using(crate::proofs::ListLemmas::counting_more))]
 pub(crate) fn everyone(alloc: Global, count: u32) -> Result<Vec<u32>, OutOfMemory>
     ensures { IfOk result (λ children. children.items ≡ spec.everyone count) }
 {
-    Ok((0..count).map(|before| before + 1).collect(alloc)?)
+    let mut children = Vec::new(alloc);
+    for before in 0..count {
+        children.push(before + 1)?;
+    }
+    Ok(children)
 }
 
 pub(crate) fn others(alloc: Global, children: &[u32], own: u32) -> Result<Vec<u32>, OutOfMemory>

@@ -1,8 +1,8 @@
 //! Texts that are made piece by piece.
 
-ghost use Rattle.std.specs.Prelude.{◌≡◌, [], ◌++◌, OnOk};
+ghost use Rattle.std.specs.Prelude.{◌≡◌, [], ◌++◌, IsTrue, OnOk};
 ghost use Rattle.std.specs.Fmt.{decimal};
-ghost use Rattle.std.specs.Str.{IsAscii};
+ghost use Rattle.ep_trial.specs.Ascii.{all_ascii};
 
 use ep_logic::{OutOfMemory, Text};
 use std::alloc::Global;
@@ -36,7 +36,7 @@ impl TextBuilder {
     }
 
     pub(crate) fn push(&mut self, piece: &str) -> Result<(), OutOfMemory>
-        requires { IsAscii piece.now }
+        requires { IsTrue (all_ascii piece.now) }
         ensures { OnOk result (self.new ≡ self.old ++ piece.now) }
     {
         self.bytes.extend_from_slice(piece.as_bytes())?;

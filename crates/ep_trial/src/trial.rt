@@ -17,7 +17,8 @@ fn push_child(text: &mut TextBuilder, child: u32) -> Result<(), OutOfMemory>
     text.push_number(child)
 }
 
-fn push_muddy(text: &mut TextBuilder, child: u32) -> Result<(), OutOfMemory>
+#[tactic(auto, unfolding(crate::specs::TrialText::muddy))]
+fn push_atom(text: &mut TextBuilder, child: u32) -> Result<(), OutOfMemory>
     ensures { OnOk result (text.new ≡ text.old ++ spec.muddy child) }
 {
     text.push("muddy ( ")?;
@@ -25,6 +26,7 @@ fn push_muddy(text: &mut TextBuilder, child: u32) -> Result<(), OutOfMemory>
     text.push(" )")
 }
 
+#[tactic(auto, unfolding(crate::specs::TrialText::listed))]
 fn push_children(text: &mut TextBuilder, children: &[u32]) -> Result<(), OutOfMemory>
     ensures { OnOk result (text.new ≡ text.old ++ listed spec.child children.now) }
 {
@@ -40,17 +42,18 @@ fn push_children(text: &mut TextBuilder, children: &[u32]) -> Result<(), OutOfMe
     Ok(())
 }
 
-fn push_muddies(text: &mut TextBuilder, children: &[u32]) -> Result<(), OutOfMemory>
+#[tactic(auto, unfolding(crate::specs::TrialText::listed))]
+fn push_atoms(text: &mut TextBuilder, children: &[u32]) -> Result<(), OutOfMemory>
     ensures { OnOk result (text.new ≡ text.old ++ listed spec.muddy children.now) }
 {
     let [first, more @ ..] = children else {
         return Ok(());
     };
     text.push(" ")?;
-    push_muddy(text, *first)?;
+    push_atom(text, *first)?;
     for child in more {
         text.push(" , ")?;
-        push_muddy(text, *child)?;
+        push_atom(text, *child)?;
     }
     Ok(())
 }
@@ -60,9 +63,11 @@ fn push_declarations(text: &mut TextBuilder, children: &[u32]) -> Result<(), Out
 {
     text.push("task muddy ;\ntypes { child < agent ;\n}\nobjects {")?;
     push_children(text, children)?;
-    text.push(" : child ;\n}\nfluents { muddy ( child ) ;\n}\n")
+    text.push(" : child ;\n}\nfluents { muddy ( child ) ;\n}\n")?;
+    Ok(())
 }
 
+#[tactic(auto, unfolding(crate::specs::TrialText::sees_line))]
 fn push_sees_line(
     alloc: Global,
     text: &mut TextBuilder,
@@ -75,7 +80,7 @@ fn push_sees_line(
     text.push("sees { ")?;
     push_child(text, own)?;
     text.push(" } {")?;
-    push_muddies(text, &others)?;
+    push_atoms(text, &others)?;
     text.push(" }\n")
 }
 
@@ -96,24 +101,27 @@ fn push_initial(alloc: Global, text: &mut TextBuilder, children: &[u32]) -> Resu
     ensures { OnOk result (text.new ≡ text.old ++ flat_map line (spec.initial_lines children.now)) }
 {
     text.push("init {\nvary {")?;
-    push_muddies(text, children)?;
+    push_atoms(text, children)?;
     text.push(" }\nlaw true ;\n")?;
     push_sees_lines(alloc, text, children)?;
-    text.push("designated forall ( c : child ) muddy ( c ) ;\n}\n")
+    text.push("designated forall ( c : child ) muddy ( c ) ;\n}\n")?;
+    Ok(())
 }
 
+#[tactic(auto, unfolding(crate::specs::TrialText::action_lines))]
 fn push_actions(text: &mut TextBuilder) -> Result<(), OutOfMemory>
     ensures { OnOk result (text.new ≡ text.old ++ flat_map line spec.action_lines) }
 {
-    text.push("action father { announce exists ( c : child ) muddy ( c ) ;\n}\n")?;
-    text.push("action ask { announce forall ( c : child ) ")?;
-    text.push("( not knows c muddy ( c ) and not knows c not muddy ( c ) ) ;\n}\n")?;
-    text.push("goal forall ( c : child ) knows c muddy ( c ) ;\n")
+    text.push(
+        "action father { announce exists ( c : child ) muddy ( c ) ;\n}\n\
+        action ask { announce forall ( c : child ) ( not knows c muddy ( c ) and not knows c not muddy ( c ) ) ;\n}\n\
+        goal forall ( c : child ) knows c muddy ( c ) ;\n",
+    )
 }
 
-/// The muddy children puzzle as a task in its layout, for so many children, all of them muddy: each child sees the others
-/// and not itself, the father announces that some child is muddy, and the question announces that no child knows whether
-/// it is. The source is van Ditmarsch, van der Hoek and Kooi, *Dynamic Epistemic Logic*.
+/// The text of the muddy children puzzle as a task, for so many children, all of them muddy: each child sees the others and
+/// not itself, the father announces that some child is muddy, and the question announces that no child knows whether it is.
+/// The source is van Ditmarsch, van der Hoek and Kooi, *Dynamic Epistemic Logic*.
 pub fn trial_text(alloc: Global, children: u32) -> Result<Text, OutOfMemory>
     ensures { IfOk result (λ text. text ≡ spec.trial_text children) }
 {

@@ -1,8 +1,9 @@
--- What a command answers for its file.
+-- What a command answers for its files.
 use Rattle.std.proofs.Common.{map, string_bytes, subst}
 use Rattle.ep_words.specs.Words.{IsCommand}
+use Rattle.ep_cli.proofs.CommandLemmas.{serves_validate, serves_eval, serves_state, serves_contract, serves_same, serves_trial}
 use Rattle.ep_cli.proofs.Lift.{serves_plan}
-use Rattle.ep_cli.proofs.WordLemmas.{plan_within}
+use Rattle.ep_cli.proofs.WordLemmas.{plan_within, trial_is_small}
 use Rattle.ep_cli.proofs.top.serve.Goals as goal
 
 pub guided-requires : goal.guided-requires

@@ -1,0 +1,13 @@
+-- Texts of ASCII bytes alone, by a test and by a fact.
+use Rattle.std.proofs.Common.{ℕ, suc, ◌<◌, List, [], ◌∷◌, All, IsTrue, nat_lt, refl}
+use Rattle.std.specs.Str.{IsAscii}
+use Rattle.std.proofs.lemmas.Bool.{ltb-true, lt-ltb, and_from}
+use Rattle.std.proofs.lemmas.List.Sums.{AllPass-from_list_all}
+use Rattle.ep_trial.specs.Ascii.{all_ascii}
+
+pub passes : (bytes : List ℕ) → IsAscii bytes → IsTrue (all_ascii bytes)
+passes [] h = refl
+passes (byte ∷ bytes) h = and_from (nat_lt byte 128) (all_ascii bytes) (lt-ltb byte 128 (h 0)) (passes bytes (λ i. h (suc i)))
+
+pub each_below : (bytes : List ℕ) → IsTrue (all_ascii bytes) → All (λ byte. byte < 128) bytes
+each_below bytes h k d l = ltb-true _ 128 (AllPass-from_list_all (λ byte. nat_lt byte 128) bytes h k d l)

@@ -1,9 +1,16 @@
 -- How the commands with plans and the trial put their steps together.
-use Rattle.std.proofs.Common.{◌≡◌, ◌≤◌, ◌<◌, ◌⊎◌, ◌↔◌, ℕ, List, length, IfSome, Result, Ok, Err, inl, inr, refl, sym, subst, ◌∙◌, arith}
+use Rattle.std.proofs.Common.{◌≡◌, ◌≤◌, ◌<◌, ◌⊎◌, ◌↔◌, ℕ, List, length, IfSome, Result, Ok, Err, inl, inr, refl, sym, ap, subst, ◌∙◌, ◌++◌, codes, arith}
 use Rattle.ep_logic.specs.declared.ids.ActionId.{ActionId}
 use Rattle.ep_logic.specs.declared.formula.Node.{Node}
 use Rattle.ep_theory.specs.Kripke.{Kripke}
+use Rattle.hex.specs.Hex.{encode_lower}
+use Rattle.ep_theory.specs.Bisimulation as theory
+use Rattle.ep_theory.specs.Canonical.{Contracts}
+use Rattle.ep_canon.specs.Bytes.{bytes_of}
 use Rattle.ep_parts.specs.Task.{GroundTask}
+use Rattle.ep_ground.specs.StateText.{state_text}
+use Rattle.ep_plan.specs.Verdicts.{IsVerdict}
+use Rattle.ep_plan.specs.declared.verdicts.Verdict.{Verdict}
 use Rattle.ep_io.specs.Library.{FileMap, LibraryState}
 use Rattle.ep_plan.specs.Runs.{RunUnder}
 use Rattle.ep_plan.specs.declared.runs.Outcome.TheVariants as run
@@ -12,7 +19,7 @@ use Rattle.ep_words.specs.declared.command.Command.{Command}
 use Rattle.ep_words.specs.declared.command.Command.TheVariants as command
 use Rattle.ep_cli.specs.Commands.{CommandWork, Guided, LacksGuide, Names, NamesOne, NamesTwo, PlanWork, SameWork, word_at}
 use Rattle.ep_cli.specs.declared.answer.Answer.{Answer}
-use Rattle.ep_cli.specs.declared.answer.Answer.TheVariants.{NoSuchGuide, Tried}
+use Rattle.ep_cli.specs.declared.answer.Answer.TheVariants.{NoSuchGuide, Tried, Judged, Bisimilar, Different}
 use Rattle.ep_cli.specs.declared.answer.Stop.{Stop}
 use Rattle.ep_cli.specs.declared.answer.Stop.TheVariants.{Told, OutOfMemory}
 use Rattle.ep_cli.specs.declared.cause.Subject.{Subject}
@@ -22,8 +29,9 @@ use Rattle.ep_cli.specs.declared.question.Question.TheVariants.{Validate, Eval, 
 use Rattle.ep_cli.specs.declared.run_stop.Whose.{Whose}
 use Rattle.ep_cli.specs.declared.run_stop.Whose.TheVariants.{Only, First, Second}
 use Rattle.ep_cli.specs.declared.status.Status.{Status}
+use Rattle.ep_cli.specs.declared.status.Status.TheVariants as done
 use Rattle.ep_cli.specs.declared.trial_text.Trial.{Trial}
-use Rattle.ep_cli.specs.Answer.{answer_status, answer_text}
+use Rattle.ep_cli.specs.Answer.{answer_status, answer_text, line}
 use Rattle.ep_cli.specs.FormulaWord.{FormulaWord}
 use Rattle.ep_cli.specs.PlanFile.{PlanFile, Ran, run_size}
 use Rattle.ep_cli.specs.Results.{Asks, Compares, Contractions, Evals, Evaluates, IsTrial, Shows, ShowsContraction, States, Tries, Validates}
@@ -123,6 +131,23 @@ asks_is_behind Contract g plan status text h = ran_is_behind Only g plan (ShowsC
 
 pub second_is_behind : (g : GroundTask) (S : Kripke) (plan : List ActionId) (status : Status) (text : List ℕ) → Ran Second g plan (Compares S) (Answers status text) → IsBehind status text
 second_is_behind g S plan status text h = ran_is_behind Second g plan (Compares S) status text (λ R e. compares_is_behind S R status text e) h
+
+pub validates_by : (g : GroundTask) (plan : List ActionId) (v : Verdict) → IsVerdict g.problem plan v → Validates g plan (answers (Judged v))
+unfolding Validates
+validates_by g plan v h = (v, h, refl)
+
+pub compares_same : (S R : Kripke) → theory.Bisimilar S R → Compares S R (answers Bisimilar)
+unfolding Compares
+compares_same S R h = inl (h, refl)
+
+pub compares_apart : (S R : Kripke) → (theory.Bisimilar S R → ⊥) → Compares S R (answers Different)
+unfolding Compares
+compares_apart S R h = inr (h, refl)
+
+pub contraction_by : (g : GroundTask) (S C : Kripke) (text digits : List ℕ) → Contracts S C → text ≡ state_text g C → digits ≡ encode_lower (bytes_of C)
+    → ShowsContraction g S (Answers done.Ok (text ++ line (codes "bytes " ++ digits)))
+unfolding ShowsContraction
+contraction_by g S C text digits h t d = (C, h, ap (λ x. Answers done.Ok (x ++ line (codes "bytes " ++ digits))) t ∙ ap (λ x. Answers done.Ok (state_text g C ++ line (codes "bytes " ++ x))) d)
 
 -- ---- the words of commands with plans
 

@@ -1,6 +1,9 @@
 -- Which answers rest on a guide.
-use Rattle.std.proofs.Common.{◌≡◌, ◌≤◌, ℕ, All, List, [], ◌∷◌, ◌++◌, length, Option, Some, None, Result, Ok, Err, drop, refl, sym, ap, subst, ◌∙◌, ◌<◌, arith}
+use Rattle.std.proofs.Common.{◌≡◌, ◌≤◌, ℕ, All, List, [], ◌∷◌, ◌++◌, length, Option, Some, None, Result, Ok, Err, IfErr, MatchResult, slice_index_or, slice_set, drop, refl, sym, ap, subst, ◌∙◌, ◌<◌, arith}
 use Rattle.std.specs.Io.KnownBytes.{Appends}
+use Rattle.std.proofs.lemmas.Option.{slice_get-get_or}
+use Rattle.std.proofs.lemmas.Grind.{get_or-set_at}
+use Rattle.std.proofs.lemmas.List.{length-set}
 use Rattle.ep_guide.specs.Asked.{Rose}
 use Rattle.ep_logic.specs.declared.ids.ActionId.{ActionId}
 use Rattle.ep_syntax.specs.declared.tree.CallTree.{CallTree}
@@ -17,18 +20,26 @@ use Rattle.ep_plan_text.proofs.TreeLemmas.{file_trees}
 use Rattle.ep_search.specs.Allowed.{WasAsked}
 use Rattle.ep_search.specs.declared.answer.Answer.{Answer as Found}
 use Rattle.ep_search.specs.declared.answer.Answer.TheVariants as found
+use Rattle.ep_search.specs.declared.answer.Bounds.{Bounds as SearchBounds}
 use Rattle.ep_cli.specs.declared.answer.Answer.{Answer}
-use Rattle.ep_cli.specs.declared.answer.Answer.TheVariants.{OfSearch}
+use Rattle.ep_cli.specs.declared.answer.Answer.TheVariants.{OfSearch, NoSuchGuide, Refused, Unreadable}
+use Rattle.ep_cli.specs.declared.cause.Cause.{Cause}
+use Rattle.ep_cli.specs.declared.cause.Subject.{Subject}
 use Rattle.ep_cli.specs.declared.answer.Stop.{Stop}
 use Rattle.ep_cli.specs.declared.answer.Stop.TheVariants.{Told, OutOfMemory}
 use Rattle.ep_cli.specs.declared.status.Status.{Status}
 use Rattle.ep_cli.specs.declared.status.Status.TheVariants as done
 use Rattle.ep_cli.specs.Answer.{answer_status, answer_text}
-use Rattle.ep_cli.specs.Guides.{AnswerNeeds, IsWhole, ListsACall, NeedsGuide, RestsOnScores, StopNeeds}
+use Rattle.ep_cli.specs.Guides.{AnswerNeeds, IsWhole, ListsACall, NeedsGuide, RestsOnScores, StopNeeds, WasAskedAt}
 use Rattle.ep_cli.specs.Results.{planned_of}
 use Rattle.ep_cli.specs.Served.{Answers, TaskRead, answers}
 use Rattle.ep_cli.specs.Steps.{IsTaskOf, StopsBy, nothing_behind}
 use Rattle.ep_cli.proofs.Steps.{tree_is_read}
+
+-- what follows from an error
+pub MatchResult-err : {A E : Type 0} (P : A → Type 0) (Q R : E → Type 0) (r : Result A E) → MatchResult r P Q → ((e : E) → Q e → R e) → IfErr r R
+MatchResult-err P Q R (Ok x) h f = tt
+MatchResult-err P Q R (Err e) h f = f e h
 
 -- ---- the empty plan lists no call
 
@@ -49,16 +60,45 @@ empty_plan_needs_none g m p w l e = empty_lists_none g m w (subst (λ q. ListsAC
 
 -- ---- answers of the search
 
+-- refusals, faults and usages rest on no guide
+pub refused_needs_none : (s : Subject) (c : Cause) → AnswerNeeds (Refused s c) → ⊥
+unfolding AnswerNeeds
+refused_needs_none s c n = absurd n
+
+pub unreadable_needs_none : (s : Subject) → AnswerNeeds (Unreadable s) → ⊥
+unfolding AnswerNeeds
+unreadable_needs_none s n = absurd n
+
+pub no_guide_needs_none : AnswerNeeds NoSuchGuide → ⊥
+unfolding AnswerNeeds
+no_guide_needs_none n = absurd n
+
 found_was_asked : (g : GroundTask) (d : ℕ) (a : Found) (before after : ℕ) → IsWhole g → WasAsked d a before after → 1 ≤ d → AnswerNeeds (OfSearch (planned_of g d a)) → Rose before after
+unfolding AnswerNeeds
 found_was_asked g d (found.Shortest p) before after w asked some needs = asked (empty_plan_needs_none g mark.Shortest p w needs)
 found_was_asked g d (found.Found p) before after w asked some needs = asked (empty_plan_needs_none g mark.Found p w needs)
 found_was_asked g d found.NoneTo before after w asked some needs = asked some
 found_was_asked g d found.ManyStates before after w asked some needs = absurd needs
 found_was_asked g d (found.Wide p) before after w asked some needs = absurd needs
 
+-- the bounds are these
+pub was_asked_is : (b d : SearchBounds) (a : Found) (before after : ℕ) → b ≡ d → WasAsked b.depth a before after → WasAsked d.depth a before after
+was_asked_is b d a before after e h = subst (λ (b : SearchBounds). WasAsked b.depth a before after) e h
+
 pub search_was_asked : (g : GroundTask) (d : ℕ) (a : Found) (answer : Answer) (before after : ℕ) → IsWhole g → answer ≡ OfSearch (planned_of g d a)
     → WasAsked d a before after → 1 ≤ d → AnswerNeeds answer → Rose before after
 search_was_asked g d a answer before after w e asked some needs = found_was_asked g d a before after w asked some (subst AnswerNeeds e needs)
+
+-- the guide at the place is asked, and the others are as before
+pub asked_at : {G : Type 0} (count : G → ℕ) (old : List G) (place : ℕ) (before after : G) → place < length old → before ≡ slice_index_or old place before
+    → Rose (count before) (count after) → WasAskedAt count old (slice_set old place after) place
+asked_at count old place before after within e rose = record {
+  before = before;
+  after = after;
+  was = slice_get-get_or old place before within ∙ ap Some (sym e);
+  is = slice_get-get_or (slice_set old place after) place after (grind (arith, within, length-set)) ∙ ap Some (get_or-set_at old place place after after refl within);
+  rose = rose;
+}
 
 -- ---- tasks
 

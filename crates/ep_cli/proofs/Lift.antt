@@ -34,7 +34,7 @@ use Rattle.ep_cli.specs.Run.{GoesOn, IsAnswerOf, IsAnswer, NamesFile}
 use Rattle.ep_cli.specs.Served.{Outcome, Answers, StopsAt, Sized, Fetched, TaskRead, TaskFile, TellsCause, IsCauseOf, Grounded, answers, place_at}
 use Rattle.ep_cli.specs.Steps.{OnlyFile, IsFetched, IsTaskOf, IsTaskFile, StopsAtFetch, StopsAtTask, Serves, StopsAnswer, StopsBy, StopsWork, nothing_behind}
 use Rattle.ep_cli.proofs.Steps.{Fetched-weaker, TaskRead-weaker, TaskRead-behind}
-use Rattle.ep_cli.specs.Guides.{NeedsGuide, StopNeeds}
+use Rattle.ep_cli.specs.Guides.{AnswerNeeds, NeedsGuide, StopNeeds}
 use Rattle.ep_cli.proofs.Told.{IsBehind, IsBehindFetch, no_guide_no_fetch, refusal_is_behind, usage_no_fetch}
 
 pub some_map : {A : Type 0} {P Q : A → Type 0} (o : Option A) → ((x : A) → P x → Q x) → IfSome o P → IfSome o Q
@@ -145,6 +145,7 @@ needs_none status text c e n = let p : status ≡ done.Refused = cc in absurd (s
 
 -- a refusal rests on no guide
 pub read_needs_none : (bytes : List ℕ) (stop : Stop) → StopsBy (TaskRead bytes nothing_behind) stop → StopNeeds stop → ⊥
+unfolding AnswerNeeds
 read_needs_none bytes (Told answer) h n =
     by_reading (answer_status answer) (answer_text answer) ⊥ (λ c b e. needs_none (answer_status answer) (answer_text answer) c e n) bytes nothing_behind (λ g none. absurd none) h
 read_needs_none bytes OutOfMemory h n = absurd n

@@ -79,7 +79,7 @@ pub stops_at_plan_fetch : (old new : LibraryState) (subject : Subject) (word : L
 stops_at_plan_fetch old new subject word g stop not h =
     StopsWork-more (λ files. Fetched files subject word nothing_behind) (λ files. PlanFile files subject word g nothing_behind) (OnlyFile subject word) (OnlyPlan subject word) old new stop
     (λ files o w. inr (not, Fetched-weaker files subject word nothing_behind (λ bytes. PlanRead subject g bytes nothing_behind) o (λ bytes none. absurd none) w))
-    (λ s name n. (n.0, n.1, not)) h
+    (λ s name n. (n.0, (n.1, not))) h
 
 pub stops_at_plan_read : (old new : LibraryState) (subject : Subject) (word bytes : List ℕ) (g : GroundTask) (stop : Stop)
     → word ≢ no_plan → IsFetched old word bytes → StopsBy (PlanRead subject g bytes nothing_behind) stop → StopsAtPlan old new subject word g stop
@@ -89,19 +89,23 @@ stops_at_plan_read old new subject word bytes g (Told answer) not fetched h =
     (some_map old.held (λ files w. inr (not, w)) (file_read old.held subject word bytes (λ bytes. PlanRead subject g bytes nothing_behind) (answers answer) fetched h))
 stops_at_plan_read old new subject word bytes g OutOfMemory not fetched h = h
 
+-- what is known of a file by its name, and what stands behind it
+abbrev FromFile : FileMap → Subject → GroundTask → (List ActionId → Outcome → Type 0) → Outcome → Option (List ℕ) → Type 0
+FromFile files subject g P o found = MatchOption found (o ≡ answers (Refused subject cause.NoSuchFile)) (λ b. Sized subject b (λ c. PlanRead subject g c P) o)
+
+abbrev Then : LibraryState → Subject → List ℕ → GroundTask → List ActionId → (FileMap → List ActionId → Outcome → Type 0) → Type 0
+Then library subject word g plan P = IfSome library.held (λ files. (o : Outcome) → P files plan o → PlanFile files subject word g (P files) o)
+
+then_by : (library : LibraryState) (subject : Subject) (word : List ℕ) (g : GroundTask) (plan : List ActionId) (P : FileMap → List ActionId → Outcome → Type 0)
+    → ((word ≡ no_plan) × (plan ≡ [])) ⊎ ((word ≢ no_plan) × IsPlanFile library word g plan) → Then library subject word g plan P
+then_by library subject word g plan P (inl none) = all_held library.held (λ files o h. inl (none.0, subst (λ p. P files p o) none.1 h))
+then_by library subject word g plan P (inr (not, file)) =
+    some_map library.held (λ files is o h. inr (not, inr (subst (FromFile files subject g (P files) o) (sym is) (inr (file.fetched.0, PlanRead-behind subject g file.bytes plan (P files) o file.is_plan h))))) file.fetched.1
+
 -- the work behind the plan of the word
 pub plan_then : (library : LibraryState) (subject : Subject) (word : List ℕ) (g : GroundTask) (plan : List ActionId) (P : FileMap → List ActionId → Outcome → Type 0)
     → IsPlanWord library word g plan → IfSome library.held (λ files. (o : Outcome) → P files plan o → PlanFile files subject word g (P files) o)
-plan_then library subject word g plan P w = by_word w.is_plan
-  where
-    abbrev read : FileMap → Outcome → Option (List ℕ) → Type 0
-    read files o found = MatchOption found (o ≡ answers (Refused subject cause.NoSuchFile)) (λ b. Sized subject b (λ c. PlanRead subject g c (P files)) o)
-
-    by_word : ((word ≡ no_plan) × (plan ≡ [])) ⊎ ((word ≢ no_plan) × IsPlanFile library word g plan)
-        → IfSome library.held (λ files. (o : Outcome) → P files plan o → PlanFile files subject word g (P files) o)
-    by_word (inl none) = all_held library.held (λ files o h. inl (none.0, subst (λ p. P files p o) none.1 h))
-    by_word (inr (not, file)) =
-        some_map library.held (λ files is o h. inr (not, inr (subst (read files o) (sym is) (inr (file.fetched.0, PlanRead-behind subject g file.bytes plan (P files) o file.is_plan h))))) file.fetched.1
+plan_then library subject word g plan P w = then_by library subject word g plan P w.is_plan
 
 -- ---- runs
 

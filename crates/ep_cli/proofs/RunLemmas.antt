@@ -1,11 +1,16 @@
 -- What the run of a plan leaves.
-use Rattle.std.proofs.Common.{◌≡◌, ◌≤◌, ◌<◌, ◌+◌, ℕ, zero, suc, All, List, [], ◌∷◌, ◌++◌, length, take, slice_get, Some, refl, sym, ap, ◌∙◌, subst, arith}
-use Rattle.std.specs.List.{AllByRecursion}
+use Rattle.std.proofs.Common.{◌≡◌, ◌≤◌, ◌<◌, ◌+◌, ℕ, zero, suc, All, Bool, false, cond, count_by, get_or, List, [], ◌∷◌, ◌++◌, length, take, slice_get, Some, refl, sym, ap, ◌∙◌, subst, arith}
+use Rattle.std.specs.List.{AllByRecursion, fold}
 use Rattle.std.proofs.lemmas.Option.{same_Some, slice_get_within, get_or_from_slice_get}
 use Rattle.std.proofs.lemmas.List.{take_more, take_all}
 use Rattle.ep_logic.specs.declared.ids.ActionId.{ActionId}
 use Rattle.ep_logic.specs.declared.formula.Node.{Node}
-use Rattle.ep_theory.specs.Kripke.{Kripke}
+use Rattle.ep_theory.specs.Kripke.{Kripke, IsState}
+use Rattle.ep_theory.specs.Numbers.{table}
+use Rattle.ep_theory.specs.Tested.{is_true}
+use Rattle.ep_theory.proofs.NumbersLemmas.{get_or-table}
+use Rattle.ep_truth.specs.Labels.{value_at}
+use Rattle.ep_truth.proofs.LabelLemmas.{designated_within}
 use Rattle.ep_theory.specs.Fits.{Fits}
 use Rattle.ep_theory.specs.Product.{product_of}
 use Rattle.ep_problem.specs.PlanningTask.{PlanningTask, IsPlanningTask, IsSmall}
@@ -19,7 +24,9 @@ use Rattle.ep_plan.specs.declared.runs.Outcome.TheVariants.{After}
 use Rattle.ep_parts.specs.Task.{GroundTask}
 use Rattle.ep_ground.specs.Grounding.{IsNamed}
 use Rattle.ep_cli.specs.PlanFile.{run_size}
-use Rattle.ep_cli.specs.Results.{AreItsActions}
+use Rattle.ep_cli.specs.declared.answer.Answer.TheVariants.{TrueAt}
+use Rattle.ep_cli.specs.Results.{AreItsActions, Evaluates}
+use Rattle.ep_cli.specs.Served.{answers}
 use Rattle.ep_cli.specs.Steps.{IsLeft}
 
 -- ---- the actions of a plan
@@ -53,15 +60,15 @@ small T (a ∷ p) n S e t w r = last_made T (a ∷ p) (length p) S t (omega arit
 pub run_is : (g : GroundTask) (plan : List ActionId) (o out : Outcome) (T : PlanningTask) → T ≡ g.problem → RunUnder T plan run_size o → o ≡ out → RunUnder g.problem plan run_size out
 run_is g plan o out T e run is = subst (λ (T : PlanningTask). RunUnder T plan run_size out) e (subst (RunUnder T plan run_size) is run)
 
-pub left_of_run : (g : GroundTask) (plan : List ActionId) (o : Outcome) (S : Kripke) (T : PlanningTask) → IsNamed g → T ≡ g.problem → IsPlanningTask T → IsSmall T
+pub left_of_run : (g : GroundTask) (plan : List ActionId) (o : Outcome) (S : Kripke) (T : PlanningTask) → IsNamed g → T ≡ g.problem → IsPlanningTask g.problem → IsSmall g.problem
     → RunUnder T plan run_size o → o ≡ After S → IsLeft g plan S
 left_of_run g plan o S T named e valid few run is =
-    let t = subst IsPlanningTask e valid in
+    let t = valid in
     let r : RunUnder g.problem plan run_size (After S) = run_is g plan o (After S) T e run is in
     let among = after_state g.problem plan S t r.leaves in
     record {
       run = r;
-      worlds = small g.problem plan (length plan) S refl t (subst IsSmall e few).worlds r;
+      worlds = small g.problem plan (length plan) S refl t few.worlds r;
       agents = among.1;
       atoms = among.2;
       named_agents = among.1 ∙ sym named.agents;
@@ -71,3 +78,21 @@ left_of_run g plan o S T named e valid few run is =
 -- a formula over the task's names fits what a plan leaves
 pub fits_what_is_left : (g : GroundTask) (S : Kripke) (f : Node) (agents : S.agents ≡ g.problem.initial.agents) (atoms : S.atoms ≡ g.problem.initial.atoms) → Fits g.problem.initial f → Fits S f
 fits_what_is_left g S f agents atoms h = formula_fits g.problem.initial S (sym agents) (sym atoms) f h
+
+-- ---- how often a formula is true
+
+abbrev count_from : (ℕ → Bool) → ℕ → List ℕ → ℕ
+count_from p n ws = fold (λ m w. m + cond (p w) 1 0) n ws
+
+counts_same : (p q : ℕ → Bool) (n m : ℕ) (ws : List ℕ) → All (λ w. w < n) ws → ((w : ℕ) → w < n → p w ≡ q w) → count_from p m ws ≡ count_from q m ws
+counts_same p q n m [] h e = refl
+counts_same p q n m (w ∷ ws) h e =
+    ap (λ b. count_from p (m + cond b 1 0) ws) (e w (h 0 w (omega arith))) ∙ counts_same p q n (m + cond (q w) 1 0) ws (λ k d l. h (suc k) d (omega (arith, l))) e
+
+pub evaluates_by : (S : Kripke) (f : Node) (row : List Bool) (places : List ℕ) (count : ℕ) → IsState S → row ≡ table (λ w. is_true S w f) S.worlds → places ≡ S.designated
+    → count ≡ count_by (value_at row) places → Evaluates f S (answers (TrueAt count (length places)))
+evaluates_by S f row places count s r p c =
+    let labels = counts_same (value_at (table (λ w. is_true S w f) S.worlds)) (λ w. is_true S w f) S.worlds 0 S.designated (designated_within S s)
+        (λ w l. get_or-table (λ w. is_true S w f) S.worlds w false l) in
+    let told : count ≡ count_by (λ w. is_true S w f) S.designated = c ∙ ap (λ row. count_by (value_at row) places) r ∙ ap (λ ps. count_by (value_at (table (λ w. is_true S w f) S.worlds)) ps) p ∙ labels in
+    ap (λ n. answers (TrueAt n (length places))) told ∙ ap (λ ps. answers (TrueAt (count_by (λ w. is_true S w f) S.designated) (length ps))) p

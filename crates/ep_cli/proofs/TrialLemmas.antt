@@ -1,16 +1,20 @@
 -- The text of a trial is short enough to be read.
-use Rattle.std.proofs.Common.{◌≡◌, ◌≤◌, ℕ, zero, suc, length, refl, arith}
+use Rattle.std.proofs.Common.{◌≡◌, ◌≤◌, ◌<◌, ◌+◌, ℕ, zero, suc, List, [], ◌∷◌, length, decimal, refl, arith}
+use Rattle.std.proofs.lemmas.Fmt.{decimal_digit}
 use Rattle.ep_trial.specs.TrialText.{action_lines, declaration_lines, initial_lines, listed, muddy, sees_line, trial_text}
 
+digit : (n : ℕ) → n < 10 → decimal n ≡ (48 + n) ∷ []
+digit n l = decimal_digit n l
+
 pub trial_is_short : (n : ℕ) → n ≤ 8 → length (trial_text n) ≤ 1048576
-unfolding action_lines, declaration_lines, initial_lines, listed, muddy, sees_line
-trial_is_short zero h = let e : length (trial_text 0) ≡ 383 = refl in omega (arith, e)
-trial_is_short (suc zero) h = let e : length (trial_text 1) ≡ 415 = refl in omega (arith, e)
-trial_is_short (suc (suc zero)) h = let e : length (trial_text 2) ≡ 477 = refl in omega (arith, e)
-trial_is_short (suc (suc (suc zero))) h = let e : length (trial_text 3) ≡ 571 = refl in omega (arith, e)
-trial_is_short (suc (suc (suc (suc zero)))) h = let e : length (trial_text 4) ≡ 695 = refl in omega (arith, e)
-trial_is_short (suc (suc (suc (suc (suc zero))))) h = let e : length (trial_text 5) ≡ 849 = refl in omega (arith, e)
-trial_is_short (suc (suc (suc (suc (suc (suc zero)))))) h = let e : length (trial_text 6) ≡ 1033 = refl in omega (arith, e)
-trial_is_short (suc (suc (suc (suc (suc (suc (suc zero))))))) h = let e : length (trial_text 7) ≡ 1247 = refl in omega (arith, e)
-trial_is_short (suc (suc (suc (suc (suc (suc (suc (suc zero)))))))) h = let e : length (trial_text 8) ≡ 1491 = refl in omega (arith, e)
+unfolding action_lines declaration_lines initial_lines listed muddy sees_line
+trial_is_short zero h = omega arith
+trial_is_short (suc zero) h = rw (digit 1 (omega arith)) (omega arith)
+trial_is_short (suc (suc zero)) h = rw (digit 1 (omega arith), digit 2 (omega arith)) (omega arith)
+trial_is_short (suc (suc (suc zero))) h = rw (digit 1 (omega arith), digit 2 (omega arith), digit 3 (omega arith)) (omega arith)
+trial_is_short (suc (suc (suc (suc zero)))) h = rw (digit 1 (omega arith), digit 2 (omega arith), digit 3 (omega arith), digit 4 (omega arith)) (omega arith)
+trial_is_short (suc (suc (suc (suc (suc zero))))) h = rw (digit 1 (omega arith), digit 2 (omega arith), digit 3 (omega arith), digit 4 (omega arith), digit 5 (omega arith)) (omega arith)
+trial_is_short (suc (suc (suc (suc (suc (suc zero)))))) h = rw (digit 1 (omega arith), digit 2 (omega arith), digit 3 (omega arith), digit 4 (omega arith), digit 5 (omega arith), digit 6 (omega arith)) (omega arith)
+trial_is_short (suc (suc (suc (suc (suc (suc (suc zero))))))) h = rw (digit 1 (omega arith), digit 2 (omega arith), digit 3 (omega arith), digit 4 (omega arith), digit 5 (omega arith), digit 6 (omega arith), digit 7 (omega arith)) (omega arith)
+trial_is_short (suc (suc (suc (suc (suc (suc (suc (suc zero)))))))) h = rw (digit 1 (omega arith), digit 2 (omega arith), digit 3 (omega arith), digit 4 (omega arith), digit 5 (omega arith), digit 6 (omega arith), digit 7 (omega arith), digit 8 (omega arith)) (omega arith)
 trial_is_short (suc (suc (suc (suc (suc (suc (suc (suc (suc n))))))))) h = absurd (omega (arith, h))

@@ -133,7 +133,7 @@ verdict_status (verdict.SpentLinks k n) = status.Undecided
 -- ---- trials
 
 abbrev pub end_text : TrialEnd → List ℕ
-end_text (Solved length verdict) = line (codes "shortest " ++ decimal length) ++ line (codes "validator " ++ verdict_text verdict)
+end_text (Solved length verdict) = codes "shortest " ++ decimal length ++ codes "\nvalidator " ++ verdict_text verdict ++ codes "\n"
 end_text (Open planned) = planned_text planned
 
 abbrev pub end_status : TrialEnd → Status
@@ -142,7 +142,7 @@ end_status (Open planned) = planned_status planned
 
 abbrev pub trial_lines : Trial → List ℕ
 trial_lines t =
-    line (codes "trial " ++ decimal t.children) ++ line (codes "worlds " ++ decimal t.worlds) ++ line (codes "contracted " ++ decimal t.contracted) ++ end_text t.end
+    codes "trial " ++ decimal t.children ++ codes "\nworlds " ++ decimal t.worlds ++ codes "\ncontracted " ++ decimal t.contracted ++ codes "\n" ++ end_text t.end
 
 -- ---- all answers
 

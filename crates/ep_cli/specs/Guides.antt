@@ -27,7 +27,7 @@ NeedsGuide status.No text = ⊤
 NeedsGuide status.Ok text = ListsACall text
 NeedsGuide _ text = ⊥
 
-abbrev pub AnswerNeeds : Answer → Type 0
+unfoldable pub AnswerNeeds : Answer → Type 0
 AnswerNeeds answer = NeedsGuide (answer_status answer) (answer_text answer)
 
 abbrev pub StopNeeds : Stop → Type 0

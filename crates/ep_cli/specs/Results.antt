@@ -1,5 +1,5 @@
 -- What each command answers for its ground task, its plans and its formula.
-use Rattle.std.specs.Prelude.{◌≡◌, ◌⊎◌, ℕ, All, ⊤, Bool, true, false, List, ◌++◌, length, map, count_by, codes}
+use Rattle.std.specs.Prelude.{◌≡◌, ◌⊎◌, ℕ, ◌<◌, All, ⊤, Bool, true, false, List, ◌++◌, length, map, count_by, codes}
 use Rattle.hex.specs.Hex.{encode_lower}
 use Rattle.ep_logic.specs.declared.formula.Node.{Node}
 use Rattle.ep_logic.specs.declared.ids.ActionId.{ActionId}

@@ -1,10 +1,11 @@
 // The commands with a task and one plan.
-ghost use Rattle.std.specs.Prelude.{◌≡◌, ◌<◌, ◌≤◌, length, IfOk, MatchResult};
-ghost use Rattle.ep_logic.specs.declared.formula.Node.{Node};
+ghost use Rattle.std.specs.Prelude.{◌≡◌, ◌<◌, ◌≤◌, All, count_by, length, string_bytes, IfOk};
+ghost use Rattle.hex.specs.Hex.{encode_lower};
+ghost use Rattle.ep_canon.specs.Bytes.{bytes_of};
 ghost use Rattle.ep_plan.specs.Runs.{AreOf};
 ghost use Rattle.ep_plan.specs.Verdicts.{IsVerdict};
 ghost use Rattle.ep_theory.specs.Fits.{Fits};
-ghost use Rattle.ep_theory.specs.Kripke.{IsState};
+ghost use Rattle.ep_truth.specs.Labels.{value_at};
 ghost use Rattle.ep_cli.specs.Commands.{PlanWork};
 ghost use Rattle.ep_cli.specs.PlanFile.{PlanFile};
 ghost use Rattle.ep_cli.specs.Results.{AreItsActions, Asks, Contractions, Evals, Evaluates, Shows, ShowsContraction, States, Validates};
@@ -20,11 +21,11 @@ use crate::formula::formula_word;
 use crate::plan_file::{plan_file, ran};
 use crate::question::Question;
 use crate::run_stop::Whose;
-use ep_canon::contract;
+use ep_canon::{Canon, contract};
 use ep_ground::{Task, print_state};
 use ep_io::Library;
 use ep_kripke::State;
-use ep_logic::{Formula, OutOfMemory, Steps};
+use ep_logic::{Bits, Formula, OutOfMemory, Steps};
 use ep_plan::{Verdict, validate};
 use ep_problem::{Plan, Problem};
 use ep_truth::label;
@@ -64,20 +65,29 @@ pub fn verdict(alloc: Global, task: &Task, plan: &Plan) -> Result<Verdict, OutOf
 
 // ---- eval
 
+// At how many of the places the value is true.
+fn true_places(row: &Bits, places: &[u32]) -> u64
+    requires { All (λ w. w < length row.now) places.now }
+    ensures { result ≡ count_by (value_at row.now) places.now }
+{
+    let mut count = 0;
+    for place in places {
+        if row.get(*place) {
+            count += 1;
+        }
+    }
+    count
+}
+
 fn evaluated(alloc: Global, state: &State, formula: &Formula) -> Result<Answer, OutOfMemory>
     requires { Fits state.now formula.now }
     ensures { IfOk result (λ answer. Evaluates formula.now state.now (answers answer)) }
 {
     let row = label(alloc, state, formula)?;
-    let mut count = 0;
-    for world in state.designated() {
-        if row.get(*world) {
-            count += 1;
-        }
-    }
+    let designated = state.designated();
     Ok(Answer::TrueAt {
-        count,
-        designated: state.designated().len() as u64,
+        count: true_places(&row, designated),
+        designated: designated.len() as u64,
     })
 }
 
@@ -106,6 +116,14 @@ fn shows(alloc: Global, task: &Task, plan: &Plan) -> Result<Answer, Stop>
 
 // ---- contract
 
+// The canonical bytes in hexadecimal.
+fn digits(alloc: Global, canon: &Canon) -> Result<String, OutOfMemory>
+    ensures { IfOk result (λ text. string_bytes text ≡ encode_lower (bytes_of canon.now)) }
+{
+    let bytes = canon.bytes(alloc)?;
+    Ok(hex::encode(alloc, bytes.as_slice())?)
+}
+
 fn contraction(alloc: Global, task: &Task, state: &State) -> Result<Answer, OutOfMemory>
     requires worlds { state.now.worlds ≤ 4096 }
     requires agents { state.now.agents ≡ length task.now.agents }
@@ -113,12 +131,9 @@ fn contraction(alloc: Global, task: &Task, state: &State) -> Result<Answer, OutO
     ensures { IfOk result (λ answer. ShowsContraction task.now state.now (answers answer)) }
 {
     let canon = contract(alloc, state)?;
-    let text = print_state(alloc, task, canon.state())?;
-    let bytes = canon.bytes(alloc)?;
-    Ok(Answer::Contraction {
-        state: text,
-        bytes: hex::encode(alloc, bytes.as_slice())?,
-    })
+    let bytes = digits(alloc, &canon)?;
+    let state = print_state(alloc, task, canon.state())?;
+    Ok(Answer::Contraction { state, bytes })
 }
 
 fn contracts(alloc: Global, task: &Task, plan: &Plan) -> Result<Answer, Stop>
@@ -136,7 +151,7 @@ fn contracts(alloc: Global, task: &Task, plan: &Plan) -> Result<Answer, Stop>
 fn asked(alloc: Global, task: &Task, plan: &Plan, question: Question) -> Result<Answer, Stop>
     requires length { length plan.now ≤ 262144 }
     requires actions { AreItsActions task.now plan.now }
-    ensures { Tells (Asks question task.now plan.now) result }
+    ensures { Tells (Asks question.entry task.now plan.now) result }
 {
     match question {
         Question::Validate => Ok(Answer::Judged(verdict(alloc, task, plan)?)),
@@ -155,7 +170,7 @@ fn of_task<L: Library>(
     question: Question,
 ) -> Result<Answer, Stop>
     ensures goes_on { GoesOn (L.library files.old) (L.library files.new) }
-    ensures answer { Serves (λ held. PlanFile held OfPlan word.now task.now (Asks question task.now)) (OnlyPlan OfPlan word.now) ⊥ (L.library files.old) (L.library files.new) result }
+    ensures answer { Serves (λ held. PlanFile held OfPlan word.now task.now (Asks question.entry task.now)) (OnlyPlan OfPlan word.now) ⊥ (L.library files.old) (L.library files.new) result }
 {
     let plan = plan_file(alloc, files, Subject::Plan, task, word)?;
     asked(alloc, task, &plan, question)
@@ -170,7 +185,7 @@ pub fn one_plan<L: Library>(
     question: Question,
 ) -> Result<Answer, Stop>
     ensures goes_on { GoesOn (L.library files.old) (L.library files.new) }
-    ensures answer { Serves (λ held. PlanWork held file.now word.now (Asks question)) (TaskAndPlan file.now word.now) ⊥ (L.library files.old) (L.library files.new) result }
+    ensures answer { Serves (λ held. PlanWork held file.now word.now (Asks question.entry)) (TaskAndPlan file.now word.now) ⊥ (L.library files.old) (L.library files.new) result }
 {
     let task = task_file(alloc, files, file)?;
     let answer = of_task(alloc, files, &task, word, question);

@@ -3,6 +3,7 @@ ghost use Rattle.std.specs.Prelude.{◌≡◌, ◌<◌, ◌≤◌, length, IfOk}
 ghost use Rattle.ep_search.specs.Allowed.{Allowed};
 ghost use Rattle.ep_search.specs.declared.answer.Mode.TheVariants as mode;
 ghost use Rattle.ep_theory.specs.Canonical.{Contracts};
+ghost use Rattle.ep_theory.specs.Kripke.{Kripke};
 ghost use Rattle.ep_trial.specs.TrialText.{trial_text};
 ghost use Rattle.ep_cli.specs.Commands.{Guided};
 ghost use Rattle.ep_cli.specs.Results.{HasItsActions, IsTrial, TrialEnds, Tries};
@@ -24,13 +25,17 @@ use ep_trial::trial_text;
 use std::alloc::Global;
 
 // The number of worlds of the contraction of the initial state.
-fn contracted(alloc: Global, task: &Task) -> Result<u32, OutOfMemory> {
+fn contracted(alloc: Global, task: &Task) -> Result<u32, OutOfMemory>
+    ensures { IfOk result (λ n. (C : Kripke) × Contracts task.now.problem.initial C × (n ≡ C.worlds)) }
+{
     let canon = contract(alloc, task.problem().initial())?;
     Ok(canon.state().worlds())
 }
 
 fn end(alloc: Global, task: &Task, depth: u32, found: &Found) -> Result<TrialEnd, OutOfMemory>
+    requires depth { depth ≤ 8 }
     requires actions { HasItsActions task.now found.now }
+    requires allowed { Allowed task.now.problem depth 1000 256 mode.Prove found.now }
     ensures { IfOk result (TrialEnds task.now depth found.now) }
 {
     match found {

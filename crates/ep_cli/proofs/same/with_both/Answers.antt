@@ -20,9 +20,9 @@ returns-in_err-first-clause-answer g c =
     let t = c.args.task.now in
     let q = c.in_ok-plan.plan in
     rw (p.1, p.2)
-    (behind_plan _ _ _ FirstPlan c.args.one.now t q (λ files p. Ran First t p (λ S. PlanFile files SecondPlan c.args.two.now t (λ q. Ran Second t q (Compares S)))) _ _ (Err c.in_err-first.field-0)
+    (behind_plan _ _ _ FirstPlan c.args.one.now t q (λ files p. Ran First t p (λ S. PlanFile files SecondPlan c.args.two.now t (λ q. Ran Second t q (Compares S)))) _ _ (Err c.in_err-first.field-0.0)
     c.in_ok-plan.ensures.plan c.in_ok-plan.ensures.goes_on (λ s name n. n)
-    (first_stops _ _ _ t q (λ files S. PlanFile files SecondPlan c.args.two.now t (λ q. Ran Second t q (Compares S))) c.in_err-first.field-0 c.in_err-first.ensures))
+    (first_stops _ _ _ t q (λ files S. PlanFile files SecondPlan c.args.two.now t (λ q. Ran Second t q (Compares S))) c.in_err-first.field-0.0 c.in_err-first.ensures))
 
 pub returns-clause-answer : goal.returns-clause-answer
 returns-clause-answer g c =

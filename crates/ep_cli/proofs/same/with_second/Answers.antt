@@ -23,8 +23,8 @@ returns-in_err-second-clause-answer g c =
     let S = c.args.first.now in
     let told = stops_map _ _ _ (λ o h. Ran-weaker Second t q nothing_behind (Compares S) o (λ R none. absurd none) h) c.in_err-second.ensures in
     rw (p.1, p.2)
-    (behind_plan _ _ _ SecondPlan c.args.word.now t q (λ files q. Ran Second t q (Compares S)) _ _ (Err c.in_err-second.field-0) c.in_ok-plan.ensures.plan c.in_ok-plan.ensures.goes_on (λ s name n. n)
-    (tells_is_served (Ran Second t q (Compares S)) _ _ _ (Err c.in_err-second.field-0) (second_is_behind t S q) told))
+    (behind_plan _ _ _ SecondPlan c.args.word.now t q (λ files q. Ran Second t q (Compares S)) _ _ (Err c.in_err-second.field-0.0) c.in_ok-plan.ensures.plan c.in_ok-plan.ensures.goes_on (λ s name n. n)
+    (tells_is_served (Ran Second t q (Compares S)) _ _ _ (Err c.in_err-second.field-0.0) (second_is_behind t S q) told))
 
 pub returns-clause-answer : goal.returns-clause-answer
 returns-clause-answer g c =

@@ -1,16 +1,54 @@
--- What a command answers for its files.
-use Rattle.std.proofs.Common.{map, string_bytes, subst}
+use Rattle.std.proofs.Common.{rules, ◌≡◌, ◌<◌, ◌≤◌, ℕ, Bool, List, IfOk, length, map, string_bytes, ◌+◌, ◌-◌, ◌*◌, ◌/◌, ◌%◌, true, false, nat_eq, nat_lt, [], ◌∷◌, ◌++◌, slice_index_or, slice_set, bit_and, bit_or, Fits, w8, w32, w64, Bor, MutBor}
+use Rattle.std.specs.Io.KnownBytes.{Appends, Keeps}
+use Rattle.ep_io.specs.Counts.{FaultSince}
+use Rattle.ep_io.specs.Sink.{AppendsPrefix}
 use Rattle.ep_words.specs.Words.{IsCommand}
-use Rattle.ep_cli.proofs.CommandLemmas.{serves_validate, serves_eval, serves_state, serves_contract, serves_same, serves_trial}
-use Rattle.ep_cli.proofs.Lift.{serves_plan}
-use Rattle.ep_cli.proofs.WordLemmas.{plan_within, trial_is_small}
+use Rattle.ep_cli.specs.Answer.{answer_status, answer_text}
+use Rattle.ep_cli.specs.Status.{IsUsageUnlessCut, IsWritten}
+use Rattle.ep_cli.specs.Commands.{CommandWork, LacksGuide, Misuses, Names, word_at}
+use Rattle.ep_words.specs.declared.command.Bounds.{Bounds}
+use Rattle.ep_words.specs.declared.command.Command.TheVariants.{Plan}
+use Rattle.ep_cli.specs.Guides.{AnswerNeeds, RestsOnScores, ResultNeeds, WasAskedAt}
+use Rattle.ep_cli.specs.Run.{GoesOn, IsAnswer}
+use Rattle.ep_cli.specs.Steps.{Serves}
 use Rattle.ep_cli.proofs.top.serve.Goals as goal
 
+-- src/top.rt:121:13
 pub guided-requires : goal.guided-requires
-guided-requires g c =
-    let words = map string_bytes c.args.words.now in
-    plan_within words c.in-Plan.bounds c.in-Plan.guide c.in-Plan.first (subst (IsCommand words) c.in-Plan.is c.requires)
+guided-requires g c = ?
 
+-- src/top.rt:100:1
 pub returns-in-Plan-clause-answer : goal.returns-in-Plan-clause-answer
-returns-in-Plan-clause-answer g c =
-    serves_plan (map string_bytes c.args.words.now) _ c.in-Plan.bounds c.in-Plan.guide c.in-Plan.first c.word-file.result.now _ _ c.guided.result c.args.command c.in-Plan.is c.word-file.ensures c.guided.ensures.answer
+returns-in-Plan-clause-answer g c = ?
+
+-- src/top.rt:100:1
+pub returns-in-Plan-clause-asked : goal.returns-in-Plan-clause-asked
+returns-in-Plan-clause-asked g c = ?
+
+-- src/top.rt:100:1
+pub returns-in-Validate-clause-answer : goal.returns-in-Validate-clause-answer
+returns-in-Validate-clause-answer g c = ?
+
+-- src/top.rt:100:1
+pub returns-in-Eval-clause-answer : goal.returns-in-Eval-clause-answer
+returns-in-Eval-clause-answer g c = ?
+
+-- src/top.rt:100:1
+pub returns-in-State-clause-answer : goal.returns-in-State-clause-answer
+returns-in-State-clause-answer g c = ?
+
+-- src/top.rt:100:1
+pub returns-in-Contract-clause-answer : goal.returns-in-Contract-clause-answer
+returns-in-Contract-clause-answer g c = ?
+
+-- src/top.rt:100:1
+pub returns-in-Same-clause-answer : goal.returns-in-Same-clause-answer
+returns-in-Same-clause-answer g c = ?
+
+-- src/top.rt:100:1
+pub returns-in-Check-clause-answer : goal.returns-in-Check-clause-answer
+returns-in-Check-clause-answer g c = ?
+
+-- src/top.rt:100:1
+pub returns-in-Trial-clause-answer : goal.returns-in-Trial-clause-answer
+returns-in-Trial-clause-answer g c = ?

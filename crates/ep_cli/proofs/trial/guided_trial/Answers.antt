@@ -1,10 +1,14 @@
 -- The trial by the first guide, if there is one.
-use Rattle.std.proofs.Common.{inl, inr, refl, arith}
+use Rattle.std.proofs.Common.{◌<◌, length, inr, arith}
+use Rattle.ep_trial.specs.TrialText.{trial_text}
+use Rattle.ep_cli.specs.Commands.{Guided}
+use Rattle.ep_cli.specs.Results.{Tries}
+use Rattle.ep_cli.specs.Served.{TaskRead}
 use Rattle.ep_cli.proofs.CommandLemmas.{tells_map}
 use Rattle.ep_cli.proofs.trial.guided_trial.Goals as goal
 
-pub returns-in_if : goal.returns-in_if
-returns-in_if c = inl (omega (arith, c.in_if.true), refl)
-
 pub returns : goal.returns
-returns c = tells_map _ _ c.trial.result (λ o w. inr (omega (arith, c.in_if.false), w)) c.trial.ensures
+returns g c =
+    let n = c.args.children in
+    let some : 0 < length c.args.guides.now.items = ? in
+    tells_map (TaskRead (trial_text n) (Tries n)) (Guided (length c.args.guides.now.items) 0 (TaskRead (trial_text n) (Tries n))) c.trial.result (λ o w. inr (some, w)) c.trial.ensures

@@ -34,12 +34,12 @@ use Rattle.ep_cli.specs.declared.trial_text.Trial.{Trial}
 use Rattle.ep_cli.specs.Answer.{answer_status, answer_text, line}
 use Rattle.ep_cli.specs.FormulaWord.{FormulaWord}
 use Rattle.ep_cli.specs.PlanFile.{PlanFile, Ran, run_size}
-use Rattle.ep_cli.specs.Results.{Asks, Compares, Contractions, Evals, Evaluates, IsTrial, Shows, ShowsContraction, States, Tries, Validates}
+use Rattle.ep_cli.specs.Results.{Asks, Checks, Compares, Contractions, Evals, Evaluates, IsTrial, Shows, ShowsContraction, States, Tries, Validates}
 use Rattle.ep_cli.specs.Run.{GoesOn, IsAnswerOf}
 use Rattle.ep_cli.specs.Served.{Outcome, Answers, TaskFile, TaskRead, answers}
-use Rattle.ep_cli.specs.Steps.{IsPlanWord, IsTaskFile, Serves, StopsAtPlan, StopsAtTask, StopsBy, TaskAndPlan, TaskAndPlans, Tells, nothing_behind}
+use Rattle.ep_cli.specs.Steps.{IsPlanWord, OnlyFile, IsTaskFile, Serves, StopsAtPlan, StopsAtTask, StopsBy, TaskAndPlan, TaskAndPlans, Tells, nothing_behind}
 use Rattle.ep_cli.proofs.FormulaLemmas.{formula_is_behind}
-use Rattle.ep_cli.proofs.Lift.{IsAnswerOf-held, Serves-more, all_held, behind_is_answer, later, read_is_behind, serves_no_guide, task_then}
+use Rattle.ep_cli.proofs.Lift.{IsAnswerOf-held, Serves-more, all_held, behind_is_answer, later, read_is_behind, serves_check, serves_no_guide, task_then}
 use Rattle.ep_cli.proofs.PlanFileLemmas.{PlanFile-weaker, Ran-behind, Ran-weaker, plan_then, ran_is_behind}
 use Rattle.ep_cli.proofs.Told.{IsBehind, compares_is_behind, contraction_is_behind, evaluates_is_behind, shows_is_behind, tries_is_behind, validates_is_behind}
 
@@ -189,6 +189,10 @@ pub serves_contract : (words : List (List ℕ)) (guides : ℕ) (file plan : List
     → file ≡ word_at words 1 → plan ≡ word_at words 2
     → Serves (λ files. PlanWork files file plan Contractions) (TaskAndPlan file plan) ⊥ old new r → ServesCommand words guides old new r k
 serves_contract words guides file plan old new r k is e p h = subst (ServesCommand words guides old new r) (sym is) (serves_one words file plan Contractions old new r e p h)
+
+pub serves_check_command : (words : List (List ℕ)) (guides : ℕ) (file : List ℕ) (old new : LibraryState) (r : Result Answer Stop) (k : Command) → k ≡ command.Check
+    → file ≡ word_at words 1 → Serves (λ files. TaskFile files file Checks) (OnlyFile Task file) ⊥ old new r → ServesCommand words guides old new r k
+serves_check_command words guides file old new r k is e h = subst (ServesCommand words guides old new r) (sym is) (serves_check words guides file old new r e h)
 
 two_names : (words : List (List ℕ)) (file one two : List ℕ) → file ≡ word_at words 1 → one ≡ word_at words 2 → two ≡ word_at words 3
     → (s : Subject) (name : List ℕ) → TaskAndPlans file one two s name → NamesTwo words s name

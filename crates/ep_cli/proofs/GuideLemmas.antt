@@ -1,5 +1,5 @@
 -- Which answers rest on a guide.
-use Rattle.std.proofs.Common.{◌≡◌, ◌≤◌, ℕ, All, List, [], ◌∷◌, ◌++◌, length, Option, Some, None, Result, Ok, Err, IfErr, MatchResult, slice_index_or, slice_set, drop, refl, sym, ap, subst, ◌∙◌, ◌<◌, arith}
+use Rattle.std.proofs.Common.{◌≡◌, ◌≤◌, ℕ, Bool, All, List, [], ◌∷◌, ◌++◌, length, Option, Some, None, Result, Ok, Err, IfErr, MatchResult, slice_index_or, slice_set, drop, refl, sym, ap, subst, ◌∙◌, ◌<◌, arith}
 use Rattle.std.specs.Io.KnownBytes.{Appends}
 use Rattle.std.proofs.lemmas.Option.{slice_get-get_or}
 use Rattle.std.proofs.lemmas.Grind.{get_or-set_at}
@@ -21,6 +21,8 @@ use Rattle.ep_search.specs.Allowed.{WasAsked}
 use Rattle.ep_search.specs.declared.answer.Answer.{Answer as Found}
 use Rattle.ep_search.specs.declared.answer.Answer.TheVariants as found
 use Rattle.ep_search.specs.declared.answer.Bounds.{Bounds as SearchBounds}
+use Rattle.ep_words.specs.declared.command.Bounds.{Bounds}
+use Rattle.ep_words.specs.declared.command.Command.TheVariants.{Plan}
 use Rattle.ep_cli.specs.declared.answer.Answer.{Answer}
 use Rattle.ep_cli.specs.declared.answer.Answer.TheVariants.{OfSearch, NoSuchGuide, Refused, Unreadable}
 use Rattle.ep_cli.specs.declared.cause.Cause.{Cause}
@@ -100,6 +102,14 @@ asked_at count old place before after within e rose = record {
   rose = rose;
 }
 
+-- the guide of the words is the command's
+pub asked_of : {G : Type 0} (count : G → ℕ) (old new : List G) (b d : Bounds) (guide other : ℕ) (first also : Bool) (N : Type 0) → Plan b guide first ≡ Plan d other also
+    → (1 ≤ b.depth → N → WasAskedAt count old new guide) → 1 ≤ d.depth → N → WasAskedAt count old new other
+asked_of count old new b d guide other first also N e f some needs =
+    let bounds : b ≡ d = cc in
+    let place : guide ≡ other = cc in
+    subst (WasAskedAt count old new) place (f (subst (λ (x : Bounds). 1 ≤ x.depth) (sym bounds) some) needs)
+
 -- ---- tasks
 
 pub whole_task : (bytes : List ℕ) (g : GroundTask) → IsTaskOf bytes g → IsWhole g
@@ -128,3 +138,10 @@ rests_needs done.ReadFault old new told a r = absurd r
 rests_needs done.WriteFault old new told a r = absurd r
 rests_needs done.OutOfMemory old new told a r = absurd r
 rests_needs done.Undecided old new told a r = absurd r
+
+-- an answer that was written rests on scores only if it needs a guide
+pub rests_answer : (answer : Answer) (status : Status) (old new : Option (List ℕ)) (bytes : List ℕ) → status ≡ answer_status answer → bytes ≡ answer_text answer
+    → Appends old new bytes → RestsOnScores status old new → AnswerNeeds answer
+unfolding AnswerNeeds
+rests_answer answer status old new bytes s b a r =
+    subst (λ s. NeedsGuide s (answer_text answer)) s (subst (NeedsGuide status) b (rests_needs status old new bytes a r))

@@ -1,5 +1,6 @@
 -- The plan of a word and its run, as steps of the work.
-use Rattle.std.proofs.Common.{◌≡◌, ◌≢◌, ◌⊎◌, ◌≤◌, ℕ, List, [], length, Option, Some, None, MatchOption, IfSome, inl, inr, refl, sym, subst}
+use Rattle.std.specs.Str.{bytes_eq}
+use Rattle.std.proofs.Common.{◌≡◌, ◌≢◌, ◌⊎◌, ◌≤◌, ℕ, Bool, false, ◌∙◌, List, [], length, Option, Some, None, MatchOption, IfSome, inl, inr, refl, sym, subst}
 use Rattle.ep_logic.specs.declared.ids.ActionId.{ActionId}
 use Rattle.ep_theory.specs.Kripke.{Kripke}
 use Rattle.ep_parts.specs.Task.{GroundTask}
@@ -67,6 +68,10 @@ plan_read_is_behind subject g bytes P status text f (inl t) = plan_cause_is_behi
 plan_read_is_behind subject g bytes P status text f (inr p) = f p.0 p.2
 
 -- ---- the plan of a word
+
+-- a word that is tested for the empty plan, and is another
+pub no_dash : (word : List ℕ) (r : Bool) → r ≡ bytes_eq word no_plan → r ≡ false → word ≢ no_plan
+no_dash word r is differs e = let same : bytes_eq no_plan no_plan ≡ false = subst (λ w. bytes_eq w no_plan ≡ false) e (sym is ∙ differs) in cc
 
 pub PlanFile-weaker : (files : FileMap) (subject : Subject) (word : List ℕ) (g : GroundTask) (P Q : List ActionId → Outcome → Type 0) (o : Outcome)
     → ((plan : List ActionId) → P plan o → Q plan o) → PlanFile files subject word g P o → PlanFile files subject word g Q o

@@ -93,6 +93,6 @@ pub evaluates_by : (S : Kripke) (f : Node) (row : List Bool) (places : List ℕ)
     → count ≡ count_by (value_at row) places → Evaluates f S (answers (TrueAt count (length places)))
 evaluates_by S f row places count s r p c =
     let labels = counts_same (value_at (table (λ w. is_true S w f) S.worlds)) (λ w. is_true S w f) S.worlds 0 S.designated (designated_within S s)
-        (λ w l. get_or-table (λ w. is_true S w f) S.worlds w false l) in
+    (λ w l. get_or-table (λ w. is_true S w f) S.worlds w false l) in
     let told : count ≡ count_by (λ w. is_true S w f) S.designated = c ∙ ap (λ row. count_by (value_at row) places) r ∙ ap (λ ps. count_by (value_at (table (λ w. is_true S w f) S.worlds)) ps) p ∙ labels in
     ap (λ n. answers (TrueAt n (length places))) told ∙ ap (λ ps. answers (TrueAt (count_by (λ w. is_true S w f) S.designated) (length ps))) p

@@ -132,8 +132,11 @@ verdict_status (verdict.SpentLinks k n) = status.Undecided
 
 -- ---- trials
 
+abbrev pub validator_line : Verdict → List ℕ
+validator_line verdict = line (codes "validator " ++ verdict_text verdict)
+
 abbrev pub end_text : TrialEnd → List ℕ
-end_text (Solved length verdict) = codes "shortest " ++ decimal length ++ codes "\nvalidator " ++ verdict_text verdict ++ codes "\n"
+end_text (Solved length verdict) = line (codes "shortest " ++ decimal length) ++ validator_line verdict
 end_text (Open planned) = planned_text planned
 
 abbrev pub end_status : TrialEnd → Status

@@ -1,6 +1,6 @@
 // How the run of a plan stops, and verdicts.
 ghost use Rattle.std.specs.Prelude.{◌≡◌, Some};
-ghost use Rattle.ep_cli.specs.Answer.{stop_status, stop_text, verdict_status, verdict_text, whose_text};
+ghost use Rattle.ep_cli.specs.Answer.{stop_status, stop_text, verdict_status, validator_line, verdict_text, whose_text};
 
 use crate::Status;
 use ep_plan::Verdict;
@@ -100,6 +100,18 @@ impl fmt::Display for Judgement {
                 write!(f, "{}", RunStop::SpentLinks { step, links }.of(Whose::Only))
             }
         }
+    }
+}
+
+/// The line of a trial that tells the verdict.
+#[derive(Clone, Copy, Debug, PartialEq, Eq)]
+pub struct ValidatorLine(pub Verdict);
+
+impl fmt::Display for ValidatorLine {
+    ghost output = { λ l. Some (validator_line l.0) };
+
+    fn fmt<W: fmt::Write>(&self, f: &mut fmt::Formatter<W>) -> fmt::Result {
+        write!(f, "validator {}\n", Judgement(self.0))
     }
 }
 

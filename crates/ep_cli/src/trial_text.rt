@@ -4,7 +4,7 @@ ghost use Rattle.ep_cli.specs.Answer.{end_status, end_text, trial_lines};
 
 use crate::Status;
 use crate::planned::Planned;
-use crate::run_stop::Judgement;
+use crate::run_stop::ValidatorLine;
 use ep_plan::Verdict;
 use std::fmt;
 
@@ -31,11 +31,9 @@ impl fmt::Display for TrialEnd {
 
     fn fmt<W: fmt::Write>(&self, f: &mut fmt::Formatter<W>) -> fmt::Result {
         match self {
-            TrialEnd::Solved { length, verdict } => write!(
-                f,
-                "shortest {length}\nvalidator {}\n",
-                Judgement(*verdict)
-            ),
+            TrialEnd::Solved { length, verdict } => {
+                write!(f, "shortest {length}\n{}", ValidatorLine(*verdict))
+            }
             TrialEnd::Open(planned) => write!(f, "{planned}"),
         }
     }

@@ -1,30 +1,21 @@
-use Rattle.std.proofs.Common.{rules, ◌≡◌, ◌<◌, ◌≤◌, ℕ, Bool, List, IfOk, length, map, string_bytes, ◌+◌, ◌-◌, ◌*◌, ◌/◌, ◌%◌, true, false, nat_eq, nat_lt, [], ◌∷◌, ◌++◌, slice_index_or, slice_set, bit_and, bit_or, Fits, w8, w32, w64, Bor, MutBor}
-use Rattle.std.specs.Io.KnownBytes.{Appends, Keeps}
-use Rattle.ep_io.specs.Counts.{FaultSince}
-use Rattle.ep_io.specs.Sink.{AppendsPrefix}
-use Rattle.ep_words.specs.Words.{IsCommand}
-use Rattle.ep_cli.specs.Answer.{answer_status, answer_text}
-use Rattle.ep_cli.specs.Status.{IsUsageUnlessCut, IsWritten}
-use Rattle.ep_cli.specs.Commands.{CommandWork, LacksGuide, Misuses, Names, word_at}
-use Rattle.ep_words.specs.declared.command.Bounds.{Bounds}
+-- What a command answers its words answer.
+use Rattle.std.proofs.Common.{sym}
 use Rattle.ep_words.specs.declared.command.Command.TheVariants.{Plan}
-use Rattle.ep_cli.specs.Guides.{AnswerNeeds, RestsOnScores, ResultNeeds, WasAskedAt}
-use Rattle.ep_cli.specs.Run.{GoesOn, IsAnswer}
-use Rattle.ep_cli.specs.Steps.{Serves}
+use Rattle.ep_cli.proofs.Lift.{IsAnswer-command}
 use Rattle.ep_cli.proofs.top.respond.Goals as goal
 
--- src/top.rt:77:1
 pub returns-in-Ok-serve-clause-answer : goal.returns-in-Ok-serve-clause-answer
-returns-in-Ok-serve-clause-answer g c = ?
+returns-in-Ok-serve-clause-answer g c = IsAnswer-command _ _ c.in-Ok.command _ _ _ _ c.in-Ok.ensures.command c.in-Ok.ensures.only c.in-Ok-serve.ensures.answer
 
--- src/top.rt:77:1
 pub returns-in-Ok-serve-clause-asked : goal.returns-in-Ok-serve-clause-asked
-returns-in-Ok-serve-clause-asked g c = ?
+returns-in-Ok-serve-clause-asked g c b guide first are some needs = c.in-Ok-serve.ensures.asked b guide first (sym (c.in-Ok.ensures.only (Plan b guide first) are)) some needs
 
--- src/top.rt:77:1
 pub returns-in-Err-Told-clause-answer : goal.returns-in-Err-Told-clause-answer
-returns-in-Err-Told-clause-answer g c = ?
+returns-in-Err-Told-clause-answer g c =
+    let told = rw c.in-Err-Told.field-0-is at c.in-Err-Told.ensures.answer in
+    IsAnswer-command _ _ c.in-Ok.command _ _ _ _ c.in-Ok.ensures.command c.in-Ok.ensures.only told
 
--- src/top.rt:77:1
 pub returns-in-Err-Told-clause-asked : goal.returns-in-Err-Told-clause-asked
-returns-in-Err-Told-clause-asked g c = ?
+returns-in-Err-Told-clause-asked g c b guide first are some needs =
+    let asked = rw c.in-Err-Told.field-0-is at c.in-Err-Told.ensures.asked in
+    asked b guide first (sym (c.in-Ok.ensures.only (Plan b guide first) are)) some needs

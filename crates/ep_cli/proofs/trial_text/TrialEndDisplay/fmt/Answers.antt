@@ -1,7 +1,8 @@
-use Rattle.std.proofs.Common.{rules, ◌≡◌, Some, ℕ, ◌+◌, ◌-◌, ◌*◌, ◌<◌, ◌≤◌, length, ◌/◌, ◌%◌, Bool, true, false, nat_eq, nat_lt, List, [], ◌∷◌, ◌++◌, slice_index_or, slice_set, bit_and, bit_or, Fits, w8, w32, w64, Bor, MutBor}
-use Rattle.ep_cli.specs.Answer.{end_status, end_text, trial_lines}
+-- The lines of a trial that is solved.
+use Rattle.std.proofs.Common.{◌∙◌, ap}
+use Rattle.ep_cli.specs.Answer.{end_text}
+use Rattle.ep_cli.proofs.TrialLemmas.{solved_text}
 use Rattle.ep_cli.proofs.trial_text.TrialEndDisplay.fmt.Goals as goal
 
--- src/trial_text.rt:32:5
 pub returns-in-Solved-clause-writes : goal.returns-in-Solved-clause-writes
-returns-in-Solved-clause-writes g c = ?
+returns-in-Solved-clause-writes g c plain ok = rw (ap end_text c.in-Solved.is ∙ solved_text c.in-Solved.length c.in-Solved.verdict) (c.write.ensures.writes plain ok)

@@ -4,7 +4,7 @@ ghost use Rattle.std.specs.Prelude.{◌≡◌, ◌<◌, ◌≤◌, ◌^◌, [], 
 ghost use Rattle.ep_binding.specs.Bindings.{bindings, binding_count, distinct_bindings, contains, IsObjects};
 
 use crate::distinct::contains;
-use ep_logic::{List, OutOfMemory};
+use ep_base::{List, OutOfMemory};
 use std::alloc::Global;
 
 /// The number of bindings of at most 6 parameters with at most 64 objects each. It takes no memory.

@@ -5,7 +5,7 @@ ghost use Rattle.std.specs.List.{flat_map};
 ghost use Rattle.ep_binding.specs.Bindings.{distinct_bindings, with_first_apart, contains};
 
 use crate::listing::binding;
-use ep_logic::{List, OutOfMemory};
+use ep_base::{List, OutOfMemory};
 use std::alloc::Global;
 
 /// All bindings that give each object to one parameter at most, in lexicographic order. Where there are none the lists

@@ -9,6 +9,3 @@ pub mod listing;
 pub use counts::{binding_count, distinct_count};
 pub use distinct::distinct_bindings;
 pub use listing::{bindings, has_binding};
-
-#[cfg(test)]
-mod tests;

@@ -4,7 +4,7 @@ ghost use Rattle.std.specs.Prelude.{◌≡◌, ◌<◌, [], ◌∷◌, ◌++◌,
 ghost use Rattle.std.specs.List.{flat_map};
 ghost use Rattle.ep_binding.specs.Bindings.{bindings, with_first};
 
-use ep_logic::{List, OutOfMemory};
+use ep_base::{List, OutOfMemory};
 use std::alloc::{AllocError, Global};
 
 /// Whether there is a binding: each parameter has an object. It takes no memory.

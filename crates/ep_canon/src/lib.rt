@@ -10,8 +10,3 @@ mod reading;
 pub use canon::{Canon, contract, same};
 pub use laws::{bytes_decide, bytes_of_contractions_decide};
 pub use reading::CanonError;
-
-#[cfg(test)]
-mod bytes_tests;
-#[cfg(test)]
-mod tests;

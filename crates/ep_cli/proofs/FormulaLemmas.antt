@@ -2,8 +2,8 @@
 use Rattle.std.proofs.Common.{◌≡◌, ◌⊎◌, ◌≤◌, ◌+◌, ℕ, List, [], length, Option, Some, None, MatchOption, inl, inr, refl, sym, subst}
 use Rattle.ep_lex.specs.Tokens.{Lexed, spellings}
 use Rattle.ep_logic.specs.declared.formula.Node.{Node}
-use Rattle.ep_syntax.specs.Grammar.{formulas, Reads}
-use Rattle.ep_syntax.specs.declared.tree.FormulaTree.{FormulaTree}
+use Rattle.ep_tree.specs.Grammar.{formulas, Reads}
+use Rattle.ep_tree.specs.declared.tree.FormulaTree.{FormulaTree}
 use Rattle.ep_types.specs.Tasks.{declarations}
 use Rattle.ep_universe.specs.FormulaFaults.{formula_refusal}
 use Rattle.ep_universe.specs.declared.fault.FormulaFault.{FormulaFault}

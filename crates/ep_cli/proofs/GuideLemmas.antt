@@ -6,9 +6,10 @@ use Rattle.std.proofs.lemmas.Grind.{get_or-set_at}
 use Rattle.std.proofs.lemmas.List.{length-set}
 use Rattle.ep_guide.specs.Asked.{Rose}
 use Rattle.ep_logic.specs.declared.ids.ActionId.{ActionId}
-use Rattle.ep_syntax.specs.declared.tree.CallTree.{CallTree}
+use Rattle.ep_tree.specs.declared.tree.CallTree.{CallTree}
 use Rattle.ep_types.specs.Tasks.{HasNoFault}
-use Rattle.ep_parts.specs.Task.{GroundTask, IsRead}
+use Rattle.ep_parts.specs.Task.{GroundTask}
+use Rattle.ep_tree.specs.Grammar.{IsRead}
 use Rattle.ep_ground.specs.Grounding.{task_of}
 use Rattle.ep_plan_text.specs.Calls.{NameActions}
 use Rattle.ep_plan_text.specs.PlanFiles.{IsPlan}

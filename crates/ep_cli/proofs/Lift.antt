@@ -3,7 +3,7 @@ use Rattle.std.proofs.Common.{◌≡◌, ◌≢◌, ◌<◌, ◌≤◌, ◌↔�
 use Rattle.std.proofs.lemmas.Result.{MatchResult-weaker}
 use Rattle.ep_io.specs.Counts.{FaultSince, RoseBeyond}
 use Rattle.ep_io.specs.Library.{LibraryState, FileMap, file_of}
-use Rattle.ep_syntax.specs.declared.tree.TaskTree.{TaskTree}
+use Rattle.ep_tree.specs.declared.tree.TaskTree.{TaskTree}
 use Rattle.ep_lex.specs.Tokens.{Lexed}
 use Rattle.ep_types.specs.Faults.{first_fault}
 use Rattle.ep_types.specs.Tasks.{declarations, task_uses}

@@ -13,7 +13,7 @@ use Rattle.ep_truth.specs.Labels.{value_at}
 use Rattle.ep_truth.proofs.LabelLemmas.{designated_within}
 use Rattle.ep_theory.specs.Fits.{Fits}
 use Rattle.ep_theory.specs.Product.{product_of}
-use Rattle.ep_problem.specs.PlanningTask.{PlanningTask, IsPlanningTask, IsSmall}
+use Rattle.ep_theory.specs.PlanningTask.{PlanningTask, IsPlanningTask, IsSmall}
 use Rattle.ep_problem.specs.Plans.{after}
 use Rattle.ep_problem.proofs.Steps.{step_some}
 use Rattle.ep_problem.proofs.Runs.{after-snoc, after_state}

@@ -2,15 +2,16 @@
 use Rattle.std.proofs.Common.{◌≡◌, ℕ, List, ◌≤◌, length, Option, Some, None, MatchOption, ◌⊎◌, inl, inr, refl, sym, ap, subst, ◌∙◌, arith}
 use Rattle.std.proofs.lemmas.List.{length-map}
 use Rattle.ep_lex.specs.Tokens.{Lexed, spellings, spelling}
-use Rattle.ep_syntax.specs.Formed.{IsFormedTask}
-use Rattle.ep_syntax.specs.Marks.{IsShallow}
-use Rattle.ep_syntax.specs.Grammar.{Grammar, tasks, spelling_of, Reads}
-use Rattle.ep_syntax.specs.declared.tree.TaskTree.{TaskTree}
+use Rattle.ep_tree.specs.Formed.{IsFormedTask}
+use Rattle.ep_tree.specs.Marks.{IsShallow}
+use Rattle.ep_tree.specs.Grammar.{Grammar, tasks, spelling_of, Reads}
+use Rattle.ep_tree.specs.declared.tree.TaskTree.{TaskTree}
 use Rattle.ep_types.specs.Places.{Uses}
 use Rattle.ep_types.specs.Faults.{first_fault}
 use Rattle.ep_types.specs.Tasks.{HasNoFault, declarations, task_uses}
 use Rattle.ep_types.specs.declared.fault.TypeFault.{TypeFault}
-use Rattle.ep_parts.specs.Task.{GroundTask, IsRead}
+use Rattle.ep_parts.specs.Task.{GroundTask}
+use Rattle.ep_tree.specs.Grammar.{IsRead}
 use Rattle.ep_ground.specs.Grounding.{fault_of, task_of}
 use Rattle.ep_parts.specs.declared.fault.GroundError.{GroundError}
 use Rattle.ep_parts.specs.declared.fault.GroundError.TheVariants as fault

@@ -2,8 +2,8 @@
 use Rattle.std.specs.Prelude.{◌≡◌, ℕ, List, [], MatchOption}
 use Rattle.ep_logic.specs.declared.formula.Node.{Node}
 use Rattle.ep_lex.specs.Tokens.{Lexed}
-use Rattle.ep_syntax.specs.Grammar.{formulas}
-use Rattle.ep_syntax.specs.declared.tree.FormulaTree.{FormulaTree}
+use Rattle.ep_tree.specs.Grammar.{formulas}
+use Rattle.ep_tree.specs.declared.tree.FormulaTree.{FormulaTree}
 use Rattle.ep_types.specs.Tasks.{declarations}
 use Rattle.ep_universe.specs.FormulaFaults.{formula_refusal}
 use Rattle.ep_universe.specs.Formulas.{ground_of}

@@ -2,9 +2,10 @@
 use Rattle.std.specs.Prelude.{◌≡◌, ℕ, ⊤, List, [], ◌++◌, Option, Some, Result, Ok, Err, slice_get}
 use Rattle.ep_guide.specs.Asked.{Rose}
 use Rattle.ep_lex.specs.declared.token.Token.{Token}
-use Rattle.ep_syntax.specs.declared.tree.PlanTree.{PlanTree}
+use Rattle.ep_tree.specs.declared.tree.PlanTree.{PlanTree}
 use Rattle.ep_types.specs.Tasks.{HasNoFault}
-use Rattle.ep_parts.specs.Task.{GroundTask, IsRead}
+use Rattle.ep_parts.specs.Task.{GroundTask}
+use Rattle.ep_tree.specs.Grammar.{IsRead}
 use Rattle.ep_ground.specs.Grounding.{task_of}
 use Rattle.ep_plan_text.specs.PlanFiles.{IsFile}
 use Rattle.ep_cli.specs.declared.answer.Answer.{Answer}

@@ -5,9 +5,9 @@ use Rattle.ep_logic.specs.declared.formula.Node.{Node}
 use Rattle.ep_logic.specs.declared.ids.ActionId.{ActionId}
 use Rattle.ep_theory.specs.Fits.{Fits}
 use Rattle.ep_theory.specs.Kripke.{Kripke}
-use Rattle.ep_syntax.specs.Grammar.{tasks, formulas, Reads}
-use Rattle.ep_syntax.specs.declared.tree.FormulaTree.{FormulaTree}
-use Rattle.ep_syntax.specs.declared.tree.TaskTree.{TaskTree}
+use Rattle.ep_tree.specs.Grammar.{tasks, formulas, Reads}
+use Rattle.ep_tree.specs.declared.tree.FormulaTree.{FormulaTree}
+use Rattle.ep_tree.specs.declared.tree.TaskTree.{TaskTree}
 use Rattle.ep_types.specs.Tasks.{HasNoFault, declarations}
 use Rattle.ep_universe.specs.FormulaFaults.{formula_refusal}
 use Rattle.ep_parts.specs.Task.{GroundTask}

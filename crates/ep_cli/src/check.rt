@@ -1,8 +1,8 @@
 // `check FILE`.
 ghost use Rattle.std.specs.Prelude.{◌≡◌, IfOk};
-ghost use Rattle.ep_syntax.specs.Formed.{IsFormedTask};
-ghost use Rattle.ep_syntax.specs.Marks.{IsShallow};
-ghost use Rattle.ep_syntax.specs.Spelling as spell;
+ghost use Rattle.ep_tree.specs.Formed.{IsFormedTask};
+ghost use Rattle.ep_tree.specs.Marks.{IsShallow};
+ghost use Rattle.ep_tree.specs.Spelling as spell;
 ghost use Rattle.ep_cli.specs.Results.{Checks, counts_of};
 ghost use Rattle.ep_cli.specs.Run.{GoesOn};
 ghost use Rattle.ep_cli.specs.Served.{TaskFile, answers};

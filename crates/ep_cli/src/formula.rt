@@ -1,9 +1,9 @@
 // The formula of a word.
 ghost use Rattle.std.specs.Prelude.{◌≡◌, ◌≤◌, length, MatchResult};
 ghost use Rattle.ep_lex.specs.Tokens.{AreTokens, spellings};
-ghost use Rattle.ep_syntax.specs.Formed.{IsFormedFormula};
-ghost use Rattle.ep_syntax.specs.Grammar.{formulas, Reads};
-ghost use Rattle.ep_syntax.specs.Marks.{IsShallow};
+ghost use Rattle.ep_tree.specs.Formed.{IsFormedFormula};
+ghost use Rattle.ep_tree.specs.Grammar.{formulas, Reads};
+ghost use Rattle.ep_tree.specs.Marks.{IsShallow};
 ghost use Rattle.ep_theory.specs.Fits.{Fits};
 ghost use Rattle.ep_cli.specs.FormulaWord.{Formed, FormulaRead, FormulaWord};
 ghost use Rattle.ep_cli.specs.Served.{Parsed, file_limit};
@@ -16,7 +16,8 @@ use crate::read::{place, tokens};
 use ep_ground::{Task, ground_formula};
 use ep_lex::TokenList;
 use ep_logic::Formula;
-use ep_syntax::{FormulaTree, SyntaxError};
+use ep_syntax::SyntaxError;
+use ep_tree::FormulaTree;
 use ep_universe::FormulaFault;
 use std::alloc::Global;
 

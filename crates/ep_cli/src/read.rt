@@ -1,9 +1,9 @@
 // The reading of texts: tokens, trees, types, and ground tasks.
 ghost use Rattle.std.specs.Prelude.{◌≡◌, ◌≤◌, length, MatchOption, MatchResult};
 ghost use Rattle.ep_lex.specs.Tokens.{AreTokens, spellings};
-ghost use Rattle.ep_syntax.specs.Grammar.{tasks, Reads};
+ghost use Rattle.ep_tree.specs.Grammar.{tasks, Reads};
 ghost use Rattle.ep_types.specs.Tasks.{HasNoFault, task_uses};
-ghost use Rattle.ep_parts.specs.Task.{IsRead};
+ghost use Rattle.ep_tree.specs.Grammar.{IsRead};
 ghost use Rattle.ep_parts.specs.declared.fault.GroundError.TheVariants as fault;
 ghost use Rattle.ep_cli.specs.declared.cause.Subject.TheVariants.{Task as OfTask};
 ghost use Rattle.ep_cli.specs.Served.{AreLexed, IsCauseOf, TellsCause, Tokenized, Parsed, Judged, Grounded, TaskRead, file_limit, place_at};
@@ -13,7 +13,8 @@ use crate::answer::{Answer, Stop};
 use crate::cause::{Cause, Place, Subject};
 use ep_ground::{GroundError, Task, ground};
 use ep_lex::{LexError, TokenList};
-use ep_syntax::{SyntaxError, TaskTree};
+use ep_syntax::SyntaxError;
+use ep_tree::TaskTree;
 use ep_types::{TypeError, Typed};
 use std::alloc::Global;
 

@@ -7,8 +7,6 @@ mod numbers;
 pub mod parts;
 pub mod refusal;
 mod relations;
-#[cfg(test)]
-mod tests;
 
 pub use action::Action;
 pub use parts::{ActionParts, Assign, EventLink, EventParts};

@@ -1,12 +1,12 @@
 -- The law and the formula of the designated worlds have ground forms in the task.
 use Rattle.std.proofs.Common.{◌≡◌, ◌∷◌, [], List, Option, None, sym, subst}
 use Rattle.std.proofs.lemmas.List.Elements.{All-head, All-tail}
-use Rattle.ep_syntax.specs.declared.tree.AtomTree.{AtomTree}
-use Rattle.ep_syntax.specs.declared.tree.FormulaTree.{FormulaTree}
-use Rattle.ep_syntax.specs.declared.tree.InitTree.{InitTree}
-use Rattle.ep_syntax.specs.declared.tree.InitTree.TheVariants.{Lawful}
-use Rattle.ep_syntax.specs.declared.tree.SeesTree.{SeesTree}
-use Rattle.ep_syntax.specs.declared.tree.TaskTree.{TaskTree}
+use Rattle.ep_tree.specs.declared.tree.AtomTree.{AtomTree}
+use Rattle.ep_tree.specs.declared.tree.FormulaTree.{FormulaTree}
+use Rattle.ep_tree.specs.declared.tree.InitTree.{InitTree}
+use Rattle.ep_tree.specs.declared.tree.InitTree.TheVariants.{Lawful}
+use Rattle.ep_tree.specs.declared.tree.SeesTree.{SeesTree}
+use Rattle.ep_tree.specs.declared.tree.TaskTree.{TaskTree}
 use Rattle.ep_types.specs.Faults.{first_fault}
 use Rattle.ep_types.specs.Places.{closed, objective, both}
 use Rattle.ep_types.specs.Tasks.{HasNoFault, declarations, start, declaration_uses, rest_uses, given_uses, init_uses, law_uses, schema_uses, sees_uses}

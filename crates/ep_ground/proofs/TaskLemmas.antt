@@ -4,12 +4,12 @@ use Rattle.std.proofs.lemmas.List.{length-append, length-map}
 use Rattle.std.proofs.lemmas.List.Elements.{All-weaker}
 use Rattle.ep_lex.specs.Tokens.{spelling, spellings}
 use Rattle.ep_lex.specs.declared.token.Token.{Token}
-use Rattle.ep_problem.specs.PlanningTask.{PlanningTask}
-use Rattle.ep_syntax.specs.Grammar.{tasks, Reads}
-use Rattle.ep_syntax.specs.declared.tree.InitTree.{InitTree}
-use Rattle.ep_syntax.specs.declared.tree.InitTree.TheVariants.{Explicit, Lawful}
-use Rattle.ep_syntax.specs.declared.tree.SchemaTree.{SchemaTree}
-use Rattle.ep_syntax.specs.declared.tree.TaskTree.{TaskTree}
+use Rattle.ep_theory.specs.PlanningTask.{PlanningTask}
+use Rattle.ep_tree.specs.Grammar.{tasks, Reads}
+use Rattle.ep_tree.specs.declared.tree.InitTree.{InitTree}
+use Rattle.ep_tree.specs.declared.tree.InitTree.TheVariants.{Explicit, Lawful}
+use Rattle.ep_tree.specs.declared.tree.SchemaTree.{SchemaTree}
+use Rattle.ep_tree.specs.declared.tree.TaskTree.{TaskTree}
 use Rattle.ep_types.specs.Names.{Text}
 use Rattle.ep_types.specs.Tasks.{HasNoFault, declarations}
 use Rattle.ep_types.specs.declared.scope.Declared.{Declared}
@@ -24,7 +24,8 @@ use Rattle.ep_ground.specs.Grounding.{IsNamed, fault_of, init_fault, initial_of,
 use Rattle.ep_parts.specs.Judged.{IsJudged, Tells}
 use Rattle.ep_parts.specs.Links.{agent_count}
 use Rattle.ep_parts.specs.PrintedNames.{object_name, atom_name, action_name, schema_names, action_names, agent_names, atom_names}
-use Rattle.ep_parts.specs.Task.{GroundTask, IsRead}
+use Rattle.ep_parts.specs.Task.{GroundTask}
+use Rattle.ep_tree.specs.Grammar.{IsRead}
 use Rattle.ep_parts.specs.Within.{IsWithinLimits}
 use Rattle.ep_parts.specs.Written.{body_formulas}
 use Rattle.ep_parts.specs.declared.fault.GroundError.{GroundError}

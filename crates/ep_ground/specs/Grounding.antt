@@ -1,10 +1,10 @@
 -- The ground task of a typed task, and the first fault of one that has none.
 use Rattle.std.specs.Prelude.{◌≡◌, [], ◌∷◌, Option, option_map, unwrap_or, length}
 use Rattle.ep_theory.specs.Kripke.{Kripke}
-use Rattle.ep_problem.specs.PlanningTask.{PlanningTask}
-use Rattle.ep_syntax.specs.declared.tree.InitTree.{InitTree}
-use Rattle.ep_syntax.specs.declared.tree.InitTree.TheVariants.{Explicit, Lawful}
-use Rattle.ep_syntax.specs.declared.tree.TaskTree.{TaskTree}
+use Rattle.ep_theory.specs.PlanningTask.{PlanningTask}
+use Rattle.ep_tree.specs.declared.tree.InitTree.{InitTree}
+use Rattle.ep_tree.specs.declared.tree.InitTree.TheVariants.{Explicit, Lawful}
+use Rattle.ep_tree.specs.declared.tree.TaskTree.{TaskTree}
 use Rattle.ep_types.specs.Tasks.{declarations}
 use Rattle.ep_types.specs.declared.scope.Declared.{Declared}
 use Rattle.ep_universe.specs.Atoms.{atoms_of}

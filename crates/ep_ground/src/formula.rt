@@ -1,9 +1,9 @@
 //! Formulas over the names of a ground task.
 
 ghost use Rattle.std.specs.Prelude.{◌≡◌, [], IfErr, IfOk, None};
-ghost use Rattle.ep_syntax.specs.Formed.{IsFormedFormula};
-ghost use Rattle.ep_syntax.specs.Grammar.{formulas};
-ghost use Rattle.ep_syntax.specs.Marks.{IsShallow};
+ghost use Rattle.ep_tree.specs.Formed.{IsFormedFormula};
+ghost use Rattle.ep_tree.specs.Grammar.{formulas};
+ghost use Rattle.ep_tree.specs.Marks.{IsShallow};
 ghost use Rattle.ep_theory.specs.Fits.{Fits};
 ghost use Rattle.ep_types.specs.Tasks.{declarations};
 ghost use Rattle.ep_universe.specs.FormulaFaults.{formula_refusal, TellsFormula};
@@ -11,7 +11,7 @@ ghost use Rattle.ep_universe.specs.Formulas.{ground_of};
 
 use crate::task::Task;
 use ep_logic::Formula;
-use ep_syntax::FormulaTree;
+use ep_tree::FormulaTree;
 use ep_universe::fault::FormulaFault;
 use ep_universe::formula;
 use ep_universe::universe::Universe;

@@ -5,7 +5,7 @@ ghost use Rattle.ep_types.specs.Tasks.{declarations};
 ghost use Rattle.ep_ground.specs.Grounding.{fault_of, later_fault, problem_from, task_of};
 ghost use Rattle.ep_parts.specs.Faults.{limit_fault};
 ghost use Rattle.ep_parts.specs.PrintedNames as printed;
-ghost use Rattle.ep_parts.specs.Task.{IsRead};
+ghost use Rattle.ep_tree.specs.Grammar.{IsRead};
 ghost use Rattle.ep_parts.specs.Within.{IsWithinLimits};
 ghost use Rattle.ep_universe.specs.Limits.{IsWithin};
 ghost use Rattle.ep_parts.specs.declared.fault.GroundError.TheVariants as fault;

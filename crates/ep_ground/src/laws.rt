@@ -4,13 +4,13 @@ ghost use Rattle.std.specs.Prelude.{ℕ, ◌≤◌, List, length};
 ghost use Rattle.std.specs.List.{AllByRecursion};
 ghost use Rattle.ep_lex.specs.Tokens.{spellings};
 ghost use Rattle.ep_lex.specs.declared.token.Token.{Token};
-ghost use Rattle.ep_syntax.specs.Grammar.{tasks, Reads};
-ghost use Rattle.ep_syntax.specs.declared.tree.TaskTree.{TaskTree};
+ghost use Rattle.ep_tree.specs.Grammar.{tasks, Reads};
+ghost use Rattle.ep_tree.specs.declared.tree.TaskTree.{TaskTree};
 ghost use Rattle.ep_theory.specs.Fits.{ActionFits, Fits};
 ghost use Rattle.ep_types.specs.Tasks.{HasNoFault, declarations};
 ghost use Rattle.ep_ground.specs.Grounding.{initial_of, problem_from};
 ghost use Rattle.ep_parts.specs.Actions.{actions_of};
-ghost use Rattle.ep_parts.specs.Task.{IsRead};
+ghost use Rattle.ep_tree.specs.Grammar.{IsRead};
 
 /// In a task without a fault all ground actions and the goal are among the agents and atoms of the initial state.
 pub fn ground_actions_fit()

@@ -14,6 +14,3 @@ pub use formula::ground_formula;
 pub use grounding::ground;
 pub use state_text::print_state;
 pub use task::{Parts, Task, parts_of_task};
-
-#[cfg(test)]
-mod tests;

@@ -1,7 +1,7 @@
 //! Ground tasks.
 
 ghost use Rattle.std.specs.Prelude.{◌≡◌, ◌≢◌, ◌<◌, ◌≤◌, All, AllPairs, IfErr, IfNone, IfOk, IfSome, None, OnOk, Some, length, slice_get};
-ghost use Rattle.ep_problem.specs.PlanningTask.{IsPlanningTask, IsSmall};
+ghost use Rattle.ep_theory.specs.PlanningTask.{IsPlanningTask, IsSmall};
 ghost use Rattle.ep_types.specs.Names.{names_of};
 ghost use Rattle.ep_types.specs.Tasks.{HasNoFault, declarations};
 ghost use Rattle.ep_parts.specs.Actions.{actions_of};
@@ -9,7 +9,7 @@ ghost use Rattle.ep_parts.specs.Faults.{Reports, atom_twice};
 ghost use Rattle.ep_ground.specs.Grounding.{IsNamed, later_fault, problem_from, task_of};
 ghost use Rattle.ep_parts.specs.Links.{agent_count};
 ghost use Rattle.ep_parts.specs.PrintedNames as printed;
-ghost use Rattle.ep_parts.specs.Task.{IsRead};
+ghost use Rattle.ep_tree.specs.Grammar.{IsRead};
 ghost use Rattle.ep_parts.specs.Within.{IsWithinLimits};
 ghost use Rattle.ep_universe.specs.Limits.{IsWithin};
 
@@ -43,7 +43,7 @@ pub struct Task {
 impl Model for Task {
     ghost use Rattle.std.specs.Coded.{codes};
     ghost use Rattle.ep_logic.specs.contracts.formula.Node as e;
-    ghost use Rattle.ep_syntax.specs.contracts.tree.TaskTree as trees;
+    ghost use Rattle.ep_tree.specs.contracts.tree.TaskTree as trees;
     ghost use Rattle.ep_parts.specs.Task.{GroundTask};
 
     ghost Value = { GroundTask };

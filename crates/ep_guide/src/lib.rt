@@ -9,6 +9,3 @@ mod queues;
 pub use frontier::{Frontier, Waiting};
 pub use guide::{Guide, View};
 pub use guides::{ByDepth, ByUnmet, ByWorlds};
-
-#[cfg(test)]
-mod tests;

@@ -5,8 +5,6 @@ mod build;
 mod parts;
 mod rows;
 mod state;
-#[cfg(test)]
-mod tests;
 
 pub use parts::{Link, StateError, StateParts};
 pub use rows::Rows;

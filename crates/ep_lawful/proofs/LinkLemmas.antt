@@ -6,8 +6,8 @@ use Rattle.ep_theory.specs.FourActions.{is_member}
 use Rattle.ep_theory.specs.Numbers.{numbers_where, table}
 use Rattle.ep_theory.proofs.FourLemmas.{member_has}
 use Rattle.ep_theory.proofs.NumbersLemmas.{length-table}
-use Rattle.ep_syntax.specs.declared.tree.AtomTree.{AtomTree}
-use Rattle.ep_syntax.specs.declared.tree.SeesTree.{SeesTree}
+use Rattle.ep_tree.specs.declared.tree.AtomTree.{AtomTree}
+use Rattle.ep_tree.specs.declared.tree.SeesTree.{SeesTree}
 use Rattle.ep_types.specs.declared.scope.Declared.{Declared}
 use Rattle.ep_universe.specs.Objects.{group_of}
 use Rattle.ep_lawful.specs.Links.{alike, alike_rows, last_seen}

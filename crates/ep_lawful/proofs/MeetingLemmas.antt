@@ -13,7 +13,7 @@ use Rattle.ep_theory.proofs.Decided.{same_test}
 use Rattle.ep_theory.proofs.Filters.{All-at}
 use Rattle.ep_theory.proofs.Lists.{equal_from_test, test_itself}
 use Rattle.ep_theory.proofs.NumbersLemmas.{length-table, get_or-table, from_rows, from_pairs}
-use Rattle.ep_syntax.specs.declared.tree.FormulaTree.{FormulaTree}
+use Rattle.ep_tree.specs.declared.tree.FormulaTree.{FormulaTree}
 use Rattle.ep_types.specs.declared.scope.Declared.{Declared}
 use Rattle.ep_universe.specs.Atoms.{atoms_of}
 use Rattle.ep_universe.specs.Formulas.{ground_of}

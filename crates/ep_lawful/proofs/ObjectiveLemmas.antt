@@ -11,10 +11,10 @@ use Rattle.ep_theory.specs.Tested.{is_true, test_step}
 use Rattle.ep_theory.proofs.Bools.{and_parts}
 use Rattle.ep_theory.proofs.Decided.{is_true-roll}
 use Rattle.ep_binding.specs.Bindings.{bindings}
-use Rattle.ep_syntax.specs.declared.tree.ParamTree.{ParamTree}
-use Rattle.ep_syntax.specs.declared.tree.FormulaTree.{FormulaTree, roll-FormulaTree}
-use Rattle.ep_syntax.specs.declared.tree.FormulaTree.TheOpen.{FormulaTree-F}
-use Rattle.ep_syntax.specs.declared.tree.FormulaTree.TheFolds.{map-FormulaTree, fold-roll-FormulaTree, ind-FormulaTree}
+use Rattle.ep_tree.specs.declared.tree.ParamTree.{ParamTree}
+use Rattle.ep_tree.specs.declared.tree.FormulaTree.{FormulaTree, roll-FormulaTree}
+use Rattle.ep_tree.specs.declared.tree.FormulaTree.TheOpen.{FormulaTree-F}
+use Rattle.ep_tree.specs.declared.tree.FormulaTree.TheFolds.{map-FormulaTree, fold-roll-FormulaTree, ind-FormulaTree}
 use Rattle.ep_types.specs.Faults.{first_fault}
 use Rattle.ep_types.specs.Places.{Scope, Uses, objective, with_param, with_params, at, each, Agent, Knowledge}
 use Rattle.ep_types.specs.Uses.{param_uses, group_uses, knower_uses, knowers_uses, production, formula_uses}

@@ -1,8 +1,8 @@
 -- The formulas of the lawful form of a task without a fault.
 use Rattle.std.proofs.Common.{◌≡◌, [], Some, None, refl, subst}
-use Rattle.ep_syntax.specs.declared.tree.FormulaTree.{FormulaTree}
-use Rattle.ep_syntax.specs.declared.tree.InitTree.{InitTree}
-use Rattle.ep_syntax.specs.declared.tree.TaskTree.{TaskTree}
+use Rattle.ep_tree.specs.declared.tree.FormulaTree.{FormulaTree}
+use Rattle.ep_tree.specs.declared.tree.InitTree.{InitTree}
+use Rattle.ep_tree.specs.declared.tree.TaskTree.{TaskTree}
 use Rattle.ep_types.specs.Faults.{first_fault}
 use Rattle.ep_types.specs.Names.{Text, declared}
 use Rattle.ep_types.specs.Places.{both, closed, objective}

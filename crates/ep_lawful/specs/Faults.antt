@@ -1,7 +1,7 @@
 -- Why the lawful form gives no initial state.
 use Rattle.std.specs.Prelude.{◌≡◌, ℕ, nat_lt, ◌==◌, List, length, Option, Some, None, if◌then◌else◌}
-use Rattle.ep_syntax.specs.declared.tree.AtomTree.{AtomTree}
-use Rattle.ep_syntax.specs.declared.tree.FormulaTree.{FormulaTree}
+use Rattle.ep_tree.specs.declared.tree.AtomTree.{AtomTree}
+use Rattle.ep_tree.specs.declared.tree.FormulaTree.{FormulaTree}
 use Rattle.ep_types.specs.declared.scope.Declared.{Declared}
 use Rattle.ep_lawful.specs.declared.fault.LawfulError.{LawfulError}
 use Rattle.ep_lawful.specs.declared.fault.LawfulError.TheVariants.{TooManyVaried, TooManyWorlds, NoDesignated, OutOfMemory}

@@ -4,7 +4,7 @@ use Rattle.ep_theory.specs.Fits.{fits_in}
 use Rattle.ep_theory.specs.Kripke.{Kripke}
 use Rattle.ep_theory.specs.Numbers.{pairs_where, table}
 use Rattle.ep_theory.specs.Tested.{is_true}
-use Rattle.ep_syntax.specs.declared.tree.FormulaTree.{FormulaTree}
+use Rattle.ep_tree.specs.declared.tree.FormulaTree.{FormulaTree}
 use Rattle.ep_types.specs.declared.scope.Declared.{Declared}
 use Rattle.ep_universe.specs.Atoms.{atoms_of}
 use Rattle.ep_universe.specs.Formulas.{ground_of}

@@ -1,10 +1,10 @@
 -- What typing says of the formulas of the lawful form.
 use Rattle.std.specs.Prelude.{◌≡◌, List, Option, None}
-use Rattle.ep_syntax.specs.declared.tree.AtomTree.{AtomTree}
-use Rattle.ep_syntax.specs.declared.tree.FormulaTree.{FormulaTree}
-use Rattle.ep_syntax.specs.declared.tree.InitTree.TheVariants.{Lawful}
-use Rattle.ep_syntax.specs.declared.tree.SeesTree.{SeesTree}
-use Rattle.ep_syntax.specs.declared.tree.TaskTree.{TaskTree}
+use Rattle.ep_tree.specs.declared.tree.AtomTree.{AtomTree}
+use Rattle.ep_tree.specs.declared.tree.FormulaTree.{FormulaTree}
+use Rattle.ep_tree.specs.declared.tree.InitTree.TheVariants.{Lawful}
+use Rattle.ep_tree.specs.declared.tree.SeesTree.{SeesTree}
+use Rattle.ep_tree.specs.declared.tree.TaskTree.{TaskTree}
 use Rattle.ep_types.specs.Faults.{first_fault}
 use Rattle.ep_types.specs.Places.{objective}
 use Rattle.ep_types.specs.Tasks.{HasNoFault, declarations}

@@ -2,7 +2,7 @@
 use Rattle.std.specs.Prelude.{ℕ, zero, suc, Bool, true, false, not, ◌==◌, List, [], ◌∷◌, ◌++◌, length, map, filter, position, slice_index_or}
 use Rattle.std.specs.Option.{option_map_or}
 use Rattle.ep_theory.specs.Numbers.{has_number, table}
-use Rattle.ep_syntax.specs.declared.tree.AtomTree.{AtomTree}
+use Rattle.ep_tree.specs.declared.tree.AtomTree.{AtomTree}
 use Rattle.ep_types.specs.declared.scope.Declared.{Declared}
 use Rattle.ep_universe.specs.Atoms.{atom_at, atoms_of}
 

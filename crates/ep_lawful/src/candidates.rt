@@ -6,7 +6,7 @@ ghost use Rattle.ep_lawful.specs.Valuations.{candidate_rows, filled, filled_rows
 use crate::numbers::{marked, numbers_of};
 use crate::valuations::valuations;
 use ep_logic::{Bits, List, OutOfMemory};
-use ep_syntax::AtomTree;
+use ep_tree::AtomTree;
 use ep_universe::Universe;
 use std::alloc::Global;
 

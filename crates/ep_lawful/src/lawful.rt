@@ -18,7 +18,7 @@ use crate::meeting::{kept, meeting};
 use crate::numbers::{distinct, numbers_of};
 use ep_kripke::State;
 use ep_logic::{Bits, List, OutOfMemory};
-use ep_syntax::{AtomTree, FormulaTree, SeesTree};
+use ep_tree::{AtomTree, FormulaTree, SeesTree};
 use ep_universe::Universe;
 use std::alloc::Global;
 

@@ -1,7 +1,7 @@
 //! What meeting a formula means, and what typing says of the formulas of the lawful form.
 
 ghost use Rattle.std.specs.Prelude.{◌≡◌, ℕ, [], None};
-ghost use Rattle.ep_syntax.specs.declared.tree.FormulaTree.{FormulaTree};
+ghost use Rattle.ep_tree.specs.declared.tree.FormulaTree.{FormulaTree};
 ghost use Rattle.ep_theory.specs.Kripke.{Kripke, truth_of};
 ghost use Rattle.ep_theory.specs.Tested.{is_true};
 ghost use Rattle.ep_types.specs.Faults.{first_fault};

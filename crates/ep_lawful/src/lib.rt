@@ -12,6 +12,3 @@ mod valuations;
 
 pub use fault::LawfulError;
 pub use lawful::lawful_state;
-
-#[cfg(test)]
-mod tests;

@@ -8,7 +8,7 @@ ghost use Rattle.ep_lawful.specs.Links.{agree, alike_rows, last_seen, seen};
 use crate::numbers::numbers_of;
 use ep_kripke::Rows;
 use ep_logic::{AgentId, Bits, List, OutOfMemory};
-use ep_syntax::{AtomTree, SeesTree};
+use ep_tree::{AtomTree, SeesTree};
 use ep_universe::Universe;
 use std::alloc::Global;
 

@@ -10,7 +10,7 @@ ghost use Rattle.ep_lawful.specs.Meeting.{IsGroundable, meets, unlinked};
 
 use ep_kripke::{Rows, State};
 use ep_logic::{Bits, List, OutOfMemory};
-use ep_syntax::FormulaTree;
+use ep_tree::FormulaTree;
 use ep_truth::label;
 use ep_universe::Universe;
 use ep_universe::formula::ground_form;

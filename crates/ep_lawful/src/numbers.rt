@@ -5,7 +5,7 @@ ghost use Rattle.ep_theory.specs.Numbers.{has_number, table};
 ghost use Rattle.ep_lawful.specs.Valuations.{distinct, numbers_of};
 
 use ep_logic::{Bits, List, OutOfMemory};
-use ep_syntax::AtomTree;
+use ep_tree::AtomTree;
 use ep_universe::Universe;
 use std::alloc::Global;
 

@@ -5,7 +5,7 @@ ghost use Rattle.ep_lex.specs.Tokens.{AreTokens, HasTokens, HasTooManyTokens, en
 use crate::piece::front_piece;
 use crate::token::{PieceKind, Token};
 use crate::token_list::TokenList;
-use ep_logic::{List, OutOfMemory};
+use ep_base::{List, OutOfMemory};
 use std::alloc::Global;
 
 /// Why a text has no list of tokens. `at` is the number of bytes before the first byte that can stand in no token,

@@ -10,6 +10,3 @@ pub mod token_list;
 pub use lex::{LexError, tokens};
 pub use token::{PieceKind, Token, TokenKind};
 pub use token_list::TokenList;
-
-#[cfg(test)]
-mod tests;

@@ -2,7 +2,7 @@ ghost use Rattle.std.specs.Prelude.{◌≡◌, ◌<◌, ◌≤◌, length, slice
 ghost use Rattle.ep_lex.specs.Tokens.{line_at};
 
 use crate::token::Token;
-use ep_logic::List;
+use ep_base::List;
 use std::marker::Model;
 
 /// The tokens of a text in order, at most 262,144, which contracts see as their list beside the line of the text's end.

@@ -2,7 +2,7 @@ ghost use Rattle.std.specs.Prelude.{◌≡◌, ◌≢◌, ℕ, ◌+◌, ◌/◌,
 ghost use Rattle.ep_logic.specs.Rows.{both, Within};
 ghost use Rattle.ep_logic.specs.Packed.{bit_in};
 
-use crate::memory::OutOfMemory;
+use ep_base::OutOfMemory;
 use std::alloc::Global;
 use std::marker::Model;
 

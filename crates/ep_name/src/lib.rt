@@ -7,6 +7,3 @@ pub mod table;
 
 pub use print::printed;
 pub use table::NameTable;
-
-#[cfg(test)]
-mod tests;

@@ -3,7 +3,7 @@
 ghost use Rattle.std.specs.Prelude.{◌≡◌, ◌<◌, All, IfOk, length};
 ghost use Rattle.ep_name.specs.Names.{printed_at, mark_before};
 
-use ep_logic::{OutOfMemory, Text};
+use ep_base::{OutOfMemory, Text};
 use std::alloc::Global;
 
 /// The declared name, and where there are objects, their names in parentheses, with `,` between them and no blank.

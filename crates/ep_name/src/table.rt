@@ -2,7 +2,7 @@
 
 ghost use Rattle.std.specs.Prelude.{◌≡◌, ◌≢◌, ◌+◌, ◌<◌, ◌^◌, [], ◌∷◌, ◌++◌, All, AllPairs, IfNone, IfSome, OnErr, OnOk, Some, length, slice_get};
 
-use ep_logic::{OutOfMemory, Text};
+use ep_base::{OutOfMemory, Text};
 use indexmap::IndexMap;
 use std::alloc::Global;
 use std::marker::Model;

@@ -28,10 +28,10 @@ use Rattle.ep_theory.specs.Numbers.{numbers_where, pairs_where, has_number, has_
 use Rattle.ep_theory.proofs.Lists.{from_map, test_itself}
 use Rattle.ep_theory.proofs.Filters.{IsIn-at, to_any}
 use Rattle.ep_theory.proofs.Counting.{last_or_before}
-use Rattle.ep_syntax.specs.declared.tree.Name.{Name}
-use Rattle.ep_syntax.specs.declared.tree.LinkTree.{LinkTree}
-use Rattle.ep_syntax.specs.declared.tree.EventTree.{EventTree}
-use Rattle.ep_syntax.specs.declared.tree.PairsTree.TheVariants.{Same}
+use Rattle.ep_tree.specs.declared.tree.Name.{Name}
+use Rattle.ep_tree.specs.declared.tree.LinkTree.{LinkTree}
+use Rattle.ep_tree.specs.declared.tree.EventTree.{EventTree}
+use Rattle.ep_tree.specs.declared.tree.PairsTree.TheVariants.{Same}
 use Rattle.ep_types.specs.Names.{Text}
 use Rattle.ep_types.specs.Tasks.{event_names}
 use Rattle.ep_types.specs.declared.scope.Declared.{Declared}

@@ -8,25 +8,25 @@ use Rattle.std.proofs.lemmas.List.Elements.{All-nil, All-cons, All-head, All-tai
 use Rattle.std.proofs.lemmas.List.Quantifiers.{all_pairs_push}
 use Rattle.ep_binding.specs.Bindings.{IsApart}
 use Rattle.ep_binding.proofs.ApartLemmas.{pairs-nil}
-use Rattle.ep_syntax.specs.declared.terminal.Terminal.{Terminal}
-use Rattle.ep_syntax.specs.declared.terminal.Terminal.TheVariants as the
-use Rattle.ep_syntax.specs.declared.tree.Name.{Name}
-use Rattle.ep_syntax.specs.declared.tree.AtomTree.{AtomTree}
-use Rattle.ep_syntax.specs.declared.tree.PairTree.{PairTree}
-use Rattle.ep_syntax.specs.declared.tree.PairsTree.{PairsTree}
-use Rattle.ep_syntax.specs.declared.tree.PairsTree.TheVariants as pairs
-use Rattle.ep_syntax.specs.declared.tree.LinkTree.{LinkTree}
-use Rattle.ep_syntax.specs.declared.tree.WorldTree.{WorldTree}
-use Rattle.ep_syntax.specs.declared.tree.ParamTree.{ParamTree}
-use Rattle.ep_syntax.specs.declared.tree.SetTree.{SetTree}
-use Rattle.ep_syntax.specs.declared.tree.EventTree.{EventTree}
-use Rattle.ep_syntax.specs.declared.tree.BodyTree.{BodyTree}
-use Rattle.ep_syntax.specs.declared.tree.BodyTree.TheVariants.{Announce, Private, Sense, Assign, Events}
-use Rattle.ep_syntax.specs.declared.tree.SchemaTree.{SchemaTree}
-use Rattle.ep_syntax.specs.declared.tree.FormulaTree.{FormulaTree}
-use Rattle.ep_syntax.specs.Marks.{Mark, IsShallow, fixed, named}
-use Rattle.ep_syntax.specs.Spelling as spell
-use Rattle.ep_syntax.specs.Formed.{Each, OneOrMore, IsFormedName, IsFormedFormula, IsFormedSet, IsFormedEvent, IsFormedLink, IsFormedBody, IsFormedSchema, IsFormedWorld}
+use Rattle.ep_tree.specs.declared.terminal.Terminal.{Terminal}
+use Rattle.ep_tree.specs.declared.terminal.Terminal.TheVariants as the
+use Rattle.ep_tree.specs.declared.tree.Name.{Name}
+use Rattle.ep_tree.specs.declared.tree.AtomTree.{AtomTree}
+use Rattle.ep_tree.specs.declared.tree.PairTree.{PairTree}
+use Rattle.ep_tree.specs.declared.tree.PairsTree.{PairsTree}
+use Rattle.ep_tree.specs.declared.tree.PairsTree.TheVariants as pairs
+use Rattle.ep_tree.specs.declared.tree.LinkTree.{LinkTree}
+use Rattle.ep_tree.specs.declared.tree.WorldTree.{WorldTree}
+use Rattle.ep_tree.specs.declared.tree.ParamTree.{ParamTree}
+use Rattle.ep_tree.specs.declared.tree.SetTree.{SetTree}
+use Rattle.ep_tree.specs.declared.tree.EventTree.{EventTree}
+use Rattle.ep_tree.specs.declared.tree.BodyTree.{BodyTree}
+use Rattle.ep_tree.specs.declared.tree.BodyTree.TheVariants.{Announce, Private, Sense, Assign, Events}
+use Rattle.ep_tree.specs.declared.tree.SchemaTree.{SchemaTree}
+use Rattle.ep_tree.specs.declared.tree.FormulaTree.{FormulaTree}
+use Rattle.ep_tree.specs.Marks.{Mark, IsShallow, fixed, named}
+use Rattle.ep_tree.specs.Spelling as spell
+use Rattle.ep_tree.specs.Formed.{Each, OneOrMore, IsFormedName, IsFormedFormula, IsFormedSet, IsFormedEvent, IsFormedLink, IsFormedBody, IsFormedSchema, IsFormedWorld}
 use Rattle.ep_types.specs.Faults.{first_fault, first_row, table}
 use Rattle.ep_types.specs.declared.fault.TypeFault.TheVariants.{TooManyParameters, Duplicate}
 use Rattle.ep_types.specs.Names.{Text, is_text, is_among, names_of}

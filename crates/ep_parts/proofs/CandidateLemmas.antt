@@ -5,9 +5,9 @@ use Rattle.std.proofs.lemmas.List.Quantifiers.{all_pairs_push}
 use Rattle.ep_theory.specs.Numbers.{numbers_where}
 use Rattle.ep_binding.specs.Bindings.{IsApart, IsObjects}
 use Rattle.ep_binding.proofs.ApartLemmas.{pairs-nil}
-use Rattle.ep_syntax.specs.declared.tree.ParamTree.{ParamTree}
-use Rattle.ep_syntax.specs.declared.tree.SchemaTree.{SchemaTree}
-use Rattle.ep_syntax.specs.declared.tree.TaskTree.{TaskTree}
+use Rattle.ep_tree.specs.declared.tree.ParamTree.{ParamTree}
+use Rattle.ep_tree.specs.declared.tree.SchemaTree.{SchemaTree}
+use Rattle.ep_tree.specs.declared.tree.TaskTree.{TaskTree}
 use Rattle.ep_types.specs.Faults.{first_fault, first_row, table}
 use Rattle.ep_types.specs.Names.{Text, names_of}
 use Rattle.ep_types.specs.Places.{Scope, closed, objective, with_param, with_params, NewName, NewParam, UsedName, both, at}

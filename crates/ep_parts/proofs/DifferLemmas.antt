@@ -9,8 +9,8 @@ use Rattle.ep_binding.proofs.ApartLemmas.{pairs-nil, pairs-head, pairs-tail, pai
 use Rattle.ep_binding.proofs.LawsLemmas.{apart-bindings, apart-distinct}
 use Rattle.ep_name.specs.Names.{printed, IsPlain}
 use Rattle.ep_name.proofs.LawsLemmas.{printed-tells, printed-apart}
-use Rattle.ep_syntax.specs.declared.tree.ParamTree.{ParamTree}
-use Rattle.ep_syntax.specs.declared.tree.SchemaTree.{SchemaTree}
+use Rattle.ep_tree.specs.declared.tree.ParamTree.{ParamTree}
+use Rattle.ep_tree.specs.declared.tree.SchemaTree.{SchemaTree}
 use Rattle.ep_types.specs.Names.{Text, names_of}
 use Rattle.ep_types.specs.declared.scope.Declared.{Declared}
 use Rattle.ep_universe.specs.Objects.{objects_of, has_type, candidates}

@@ -20,10 +20,10 @@ use Rattle.ep_kripke.specs.declared.parts.StateError.{StateError}
 use Rattle.ep_kripke.specs.declared.parts.StateError.TheVariants as error
 use Rattle.ep_kripke.specs.Parts.{link, world, IsMadeOf, IsRefusal, fault_of, when, is_world, first_some}
 use Rattle.ep_kripke.proofs.SameStates.{one_state}
-use Rattle.ep_syntax.specs.declared.tree.Name.{Name}
-use Rattle.ep_syntax.specs.declared.tree.LinkTree.{LinkTree}
-use Rattle.ep_syntax.specs.declared.tree.WorldTree.{WorldTree}
-use Rattle.ep_syntax.specs.declared.tree.PairsTree.TheVariants.{Same}
+use Rattle.ep_tree.specs.declared.tree.Name.{Name}
+use Rattle.ep_tree.specs.declared.tree.LinkTree.{LinkTree}
+use Rattle.ep_tree.specs.declared.tree.WorldTree.{WorldTree}
+use Rattle.ep_tree.specs.declared.tree.PairsTree.TheVariants.{Same}
 use Rattle.ep_types.specs.Names.{Text}
 use Rattle.ep_types.specs.Tasks.{world_names}
 use Rattle.ep_types.specs.declared.scope.Declared.{Declared}

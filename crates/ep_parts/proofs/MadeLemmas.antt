@@ -14,10 +14,10 @@ use Rattle.ep_theory.proofs.Filters.{IsIn-at}
 use Rattle.ep_theory.proofs.Counting.{last_or_before}
 use Rattle.ep_theory.proofs.Bools.{in_left, in_right, in_parts}
 use Rattle.ep_theory.proofs.NumbersLemmas.{length-table, from_table, from_pairs}
-use Rattle.ep_syntax.specs.declared.tree.Name.{Name}
-use Rattle.ep_syntax.specs.declared.tree.LinkTree.{LinkTree}
-use Rattle.ep_syntax.specs.declared.tree.PairsTree.{PairsTree}
-use Rattle.ep_syntax.specs.declared.tree.PairsTree.TheVariants as pairs
+use Rattle.ep_tree.specs.declared.tree.Name.{Name}
+use Rattle.ep_tree.specs.declared.tree.LinkTree.{LinkTree}
+use Rattle.ep_tree.specs.declared.tree.PairsTree.{PairsTree}
+use Rattle.ep_tree.specs.declared.tree.PairsTree.TheVariants as pairs
 use Rattle.ep_types.specs.Names.{Text, is_text}
 use Rattle.ep_types.specs.declared.scope.Declared.{Declared}
 use Rattle.ep_universe.specs.Objects.{Binding, group_of}

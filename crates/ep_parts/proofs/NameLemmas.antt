@@ -11,13 +11,13 @@ use Rattle.ep_binding.proofs.LawsLemmas.{all-bindings}
 use Rattle.ep_theory.specs.Numbers.{numbers_where}
 use Rattle.ep_theory.proofs.Filters.{IsIn-at}
 use Rattle.ep_theory.proofs.NumbersLemmas.{from_numbers}
-use Rattle.ep_syntax.specs.declared.tree.Name.{Name}
-use Rattle.ep_syntax.specs.declared.tree.TypeTree.{TypeTree}
-use Rattle.ep_syntax.specs.declared.tree.ObjectTree.{ObjectTree}
-use Rattle.ep_syntax.specs.declared.tree.FluentTree.{FluentTree}
-use Rattle.ep_syntax.specs.declared.tree.ParamTree.{ParamTree}
-use Rattle.ep_syntax.specs.declared.tree.SchemaTree.{SchemaTree}
-use Rattle.ep_syntax.specs.declared.tree.TaskTree.{TaskTree}
+use Rattle.ep_tree.specs.declared.tree.Name.{Name}
+use Rattle.ep_tree.specs.declared.tree.TypeTree.{TypeTree}
+use Rattle.ep_tree.specs.declared.tree.ObjectTree.{ObjectTree}
+use Rattle.ep_tree.specs.declared.tree.FluentTree.{FluentTree}
+use Rattle.ep_tree.specs.declared.tree.ParamTree.{ParamTree}
+use Rattle.ep_tree.specs.declared.tree.SchemaTree.{SchemaTree}
+use Rattle.ep_tree.specs.declared.tree.TaskTree.{TaskTree}
 use Rattle.ep_types.specs.Atoms.{texts}
 use Rattle.ep_types.specs.Names.{Text, names_of, values_of}
 use Rattle.ep_types.specs.Tasks.{declarations, start, with_type, after_types, with_objects, with_object, after_objects, with_fluent, after_fluents}

@@ -3,24 +3,24 @@ use Rattle.std.proofs.Common.{◌≡◌, ℕ, ◌+◌, ◌≤◌, List, [], ◌�
 use Rattle.std.specs.List.{flat_map}
 use Rattle.std.proofs.lemmas.List.{length-append, length-map}
 use Rattle.std.proofs.lemmas.List.Elements.{All-nil, All-cons, All-append}
-use Rattle.ep_syntax.specs.Grammar.{tasks, spelling_of}
-use Rattle.ep_syntax.specs.Marks.{Mark, fixed, named}
-use Rattle.ep_syntax.specs.declared.terminal.Terminal.TheVariants as the
-use Rattle.ep_syntax.specs.Spelling as spell
-use Rattle.ep_syntax.specs.declared.tree.FormulaTree.{FormulaTree}
-use Rattle.ep_syntax.specs.declared.tree.InitTree.{InitTree}
-use Rattle.ep_syntax.specs.declared.tree.InitTree.TheVariants.{Explicit, Lawful}
-use Rattle.ep_syntax.specs.declared.tree.WorldTree.{WorldTree}
-use Rattle.ep_syntax.specs.declared.tree.SetTree.{SetTree}
-use Rattle.ep_syntax.specs.declared.tree.EventTree.{EventTree}
-use Rattle.ep_syntax.specs.declared.tree.BodyTree.{BodyTree}
-use Rattle.ep_syntax.specs.declared.tree.BodyTree.TheVariants.{Announce, Private, Sense, Assign, Events}
-use Rattle.ep_syntax.specs.declared.tree.SchemaTree.{SchemaTree}
-use Rattle.ep_syntax.specs.declared.tree.TaskTree.{TaskTree}
-use Rattle.ep_syntax.proofs.MarkLists.{length-texts}
+use Rattle.ep_tree.specs.Grammar.{tasks, spelling_of}
+use Rattle.ep_tree.specs.Marks.{Mark, fixed, named}
+use Rattle.ep_tree.specs.declared.terminal.Terminal.TheVariants as the
+use Rattle.ep_tree.specs.Spelling as spell
+use Rattle.ep_tree.specs.declared.tree.FormulaTree.{FormulaTree}
+use Rattle.ep_tree.specs.declared.tree.InitTree.{InitTree}
+use Rattle.ep_tree.specs.declared.tree.InitTree.TheVariants.{Explicit, Lawful}
+use Rattle.ep_tree.specs.declared.tree.WorldTree.{WorldTree}
+use Rattle.ep_tree.specs.declared.tree.SetTree.{SetTree}
+use Rattle.ep_tree.specs.declared.tree.EventTree.{EventTree}
+use Rattle.ep_tree.specs.declared.tree.BodyTree.{BodyTree}
+use Rattle.ep_tree.specs.declared.tree.BodyTree.TheVariants.{Announce, Private, Sense, Assign, Events}
+use Rattle.ep_tree.specs.declared.tree.SchemaTree.{SchemaTree}
+use Rattle.ep_tree.specs.declared.tree.TaskTree.{TaskTree}
+use Rattle.ep_tree.proofs.MarkTexts.{length-texts}
 use Rattle.ep_types.specs.declared.scope.Declared.{Declared}
 use Rattle.ep_parts.specs.Actions.{schema_bindings, action_of, schema_actions, actions_of}
-use Rattle.ep_parts.specs.Task.{IsRead}
+use Rattle.ep_tree.specs.Grammar.{IsRead}
 use Rattle.ep_parts.specs.Written.{Written, written, init_formulas, values_of, event_formulas, body_formulas, schema_formulas, task_formulas}
 use Rattle.ep_universe.specs.Objects.{bound}
 

@@ -3,20 +3,20 @@ use Rattle.std.proofs.Common.{◌≡◌, ℕ, ◌+◌, ◌<◌, ◌≤◌, Bool,
 use Rattle.std.specs.List.{flat_map}
 use Rattle.std.proofs.lemmas.Bool.Decides.{nat_tests}
 use Rattle.std.proofs.lemmas.List.Elements.{All-nil, All-cons, All-head, All-tail, All-append}
-use Rattle.ep_syntax.specs.Formed.{Each, IsFormedFormula, IsFormedSet, IsFormedEvent, IsFormedBody, IsFormedInit, IsFormedSchema, OneOrMore}
-use Rattle.ep_syntax.specs.Grammar.{formulas, tasks}
-use Rattle.ep_syntax.specs.Marks.{Mark, IsShallow, fixed}
-use Rattle.ep_syntax.specs.Spelling as spell
-use Rattle.ep_syntax.specs.declared.terminal.Terminal.TheVariants as the
-use Rattle.ep_syntax.specs.declared.tree.FormulaTree.{FormulaTree}
-use Rattle.ep_syntax.specs.declared.tree.InitTree.{InitTree}
-use Rattle.ep_syntax.specs.declared.tree.InitTree.TheVariants.{Explicit, Lawful}
-use Rattle.ep_syntax.specs.declared.tree.SetTree.{SetTree}
-use Rattle.ep_syntax.specs.declared.tree.EventTree.{EventTree}
-use Rattle.ep_syntax.specs.declared.tree.BodyTree.{BodyTree}
-use Rattle.ep_syntax.specs.declared.tree.BodyTree.TheVariants.{Announce, Private, Sense, Assign, Events}
-use Rattle.ep_syntax.specs.declared.tree.SchemaTree.{SchemaTree}
-use Rattle.ep_syntax.specs.declared.tree.TaskTree.{TaskTree}
+use Rattle.ep_tree.specs.Formed.{Each, IsFormedFormula, IsFormedSet, IsFormedEvent, IsFormedBody, IsFormedInit, IsFormedSchema, OneOrMore}
+use Rattle.ep_tree.specs.Grammar.{formulas, tasks}
+use Rattle.ep_tree.specs.Marks.{Mark, IsShallow, fixed}
+use Rattle.ep_tree.specs.Spelling as spell
+use Rattle.ep_tree.specs.declared.terminal.Terminal.TheVariants as the
+use Rattle.ep_tree.specs.declared.tree.FormulaTree.{FormulaTree}
+use Rattle.ep_tree.specs.declared.tree.InitTree.{InitTree}
+use Rattle.ep_tree.specs.declared.tree.InitTree.TheVariants.{Explicit, Lawful}
+use Rattle.ep_tree.specs.declared.tree.SetTree.{SetTree}
+use Rattle.ep_tree.specs.declared.tree.EventTree.{EventTree}
+use Rattle.ep_tree.specs.declared.tree.BodyTree.{BodyTree}
+use Rattle.ep_tree.specs.declared.tree.BodyTree.TheVariants.{Announce, Private, Sense, Assign, Events}
+use Rattle.ep_tree.specs.declared.tree.SchemaTree.{SchemaTree}
+use Rattle.ep_tree.specs.declared.tree.TaskTree.{TaskTree}
 use Rattle.ep_types.specs.Faults.{first_fault}
 use Rattle.ep_types.specs.Names.{Text}
 use Rattle.ep_types.specs.Places.{Scope, closed, objective, with_params, NewName, both, each, at}
@@ -33,7 +33,7 @@ use Rattle.ep_universe.proofs.TypedLemmas.{both-none}
 use Rattle.ep_parts.specs.Actions.{schema_bindings, actions_of}
 use Rattle.ep_parts.specs.Faults.{above, when, event_count, too_many_events, is_too_large, too_large_formula, too_large, node_total, first_of, limit_fault}
 use Rattle.ep_parts.specs.Judged.{IsJudged}
-use Rattle.ep_parts.specs.Task.{IsRead}
+use Rattle.ep_tree.specs.Grammar.{IsRead}
 use Rattle.ep_parts.specs.Within.{IsWithinSchema, IsWithinLimits}
 use Rattle.ep_parts.specs.Written.{Written, written, init_formulas, values_of, event_formulas, body_formulas, schema_formulas, task_formulas}
 use Rattle.ep_parts.specs.declared.fault.GroundError.{GroundError}

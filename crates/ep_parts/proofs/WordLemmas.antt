@@ -10,18 +10,18 @@ use Rattle.ep_lex.specs.Pieces.{is_letter, is_word_byte, is_piece}
 use Rattle.ep_lex.specs.declared.token.TokenKind.TheVariants as kind
 use Rattle.ep_lex.specs.Pieces as piece
 use Rattle.ep_name.specs.Names.{IsPlainByte, IsPlain}
-use Rattle.ep_syntax.specs.declared.terminal.Terminal.TheVariants as the
-use Rattle.ep_syntax.specs.declared.tree.Name.{Name}
-use Rattle.ep_syntax.specs.declared.tree.ObjectTree.{ObjectTree}
-use Rattle.ep_syntax.specs.declared.tree.WorldTree.{WorldTree}
-use Rattle.ep_syntax.specs.declared.tree.LinkTree.{LinkTree}
-use Rattle.ep_syntax.specs.declared.tree.InitTree.TheVariants.{Explicit}
-use Rattle.ep_syntax.specs.declared.tree.SchemaTree.{SchemaTree}
-use Rattle.ep_syntax.specs.declared.tree.TaskTree.{TaskTree}
-use Rattle.ep_syntax.specs.Formed.{Each, OneOrMore, IsFormedName, IsFormedObject, IsFormedSchema, IsFormedInit}
-use Rattle.ep_syntax.specs.Marks.{Mark, IsShallow, fixed, named, texts as mark_texts}
-use Rattle.ep_syntax.specs.Spelling as spell
-use Rattle.ep_syntax.specs.Terminals.{is_name, is_reserved}
+use Rattle.ep_tree.specs.declared.terminal.Terminal.TheVariants as the
+use Rattle.ep_tree.specs.declared.tree.Name.{Name}
+use Rattle.ep_tree.specs.declared.tree.ObjectTree.{ObjectTree}
+use Rattle.ep_tree.specs.declared.tree.WorldTree.{WorldTree}
+use Rattle.ep_tree.specs.declared.tree.LinkTree.{LinkTree}
+use Rattle.ep_tree.specs.declared.tree.InitTree.TheVariants.{Explicit}
+use Rattle.ep_tree.specs.declared.tree.SchemaTree.{SchemaTree}
+use Rattle.ep_tree.specs.declared.tree.TaskTree.{TaskTree}
+use Rattle.ep_tree.specs.Formed.{Each, OneOrMore, IsFormedName, IsFormedObject, IsFormedSchema, IsFormedInit}
+use Rattle.ep_tree.specs.Marks.{Mark, IsShallow, fixed, named, texts as mark_texts}
+use Rattle.ep_tree.specs.Spelling as spell
+use Rattle.ep_tree.specs.Terminals.{is_name, is_reserved}
 use Rattle.ep_types.specs.Atoms.{texts}
 use Rattle.ep_types.specs.Faults.{first_fault}
 use Rattle.ep_types.specs.Names.{Text, is_among, names_of}
@@ -34,7 +34,7 @@ use Rattle.ep_universe.proofs.GroundLemmas.{left, right}
 use Rattle.ep_universe.proofs.TypedLemmas.{both-none, objects_fine, typed_by}
 use Rattle.ep_parts.specs.Bodies.{IsBuildableState}
 use Rattle.ep_parts.specs.PrintedNames.{AreNames}
-use Rattle.ep_parts.specs.Task.{IsRead}
+use Rattle.ep_tree.specs.Grammar.{IsRead}
 use Rattle.ep_parts.proofs.BodyLemmas.{IsSound, IsFresh, fresh-apart, new-name, sound_schemas, state_buildable, long-left, long-right}
 use Rattle.ep_parts.proofs.FormulaLemmas.{shallow-left, shallow-right}
 use Rattle.ep_parts.proofs.NameLemmas.{objects-declared}

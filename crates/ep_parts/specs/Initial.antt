@@ -2,9 +2,9 @@
 use Rattle.std.specs.Prelude.{ℕ, Bool, List, [], length, map}
 use Rattle.ep_theory.specs.Kripke.{Kripke}
 use Rattle.ep_theory.specs.Numbers.{has_number, table}
-use Rattle.ep_syntax.specs.declared.tree.Name.{Name}
-use Rattle.ep_syntax.specs.declared.tree.LinkTree.{LinkTree}
-use Rattle.ep_syntax.specs.declared.tree.WorldTree.{WorldTree}
+use Rattle.ep_tree.specs.declared.tree.Name.{Name}
+use Rattle.ep_tree.specs.declared.tree.LinkTree.{LinkTree}
+use Rattle.ep_tree.specs.declared.tree.WorldTree.{WorldTree}
 use Rattle.ep_types.specs.Tasks.{world_names}
 use Rattle.ep_types.specs.declared.scope.Declared.{Declared}
 use Rattle.ep_universe.specs.Objects.{agents_of}

@@ -2,11 +2,11 @@
 use Rattle.std.specs.Prelude.{ℕ, true, List, [], ◌∷◌, length, map, position, unwrap_or, if◌then◌else◌}
 use Rattle.ep_theory.specs.FourActions.{is_member}
 use Rattle.ep_theory.specs.Numbers.{numbers_where, pairs_where, has_number, has_pair, table}
-use Rattle.ep_syntax.specs.declared.tree.Name.{Name}
-use Rattle.ep_syntax.specs.declared.tree.PairTree.{PairTree}
-use Rattle.ep_syntax.specs.declared.tree.PairsTree.{PairsTree}
-use Rattle.ep_syntax.specs.declared.tree.PairsTree.TheVariants.{All, Same, Listed}
-use Rattle.ep_syntax.specs.declared.tree.LinkTree.{LinkTree}
+use Rattle.ep_tree.specs.declared.tree.Name.{Name}
+use Rattle.ep_tree.specs.declared.tree.PairTree.{PairTree}
+use Rattle.ep_tree.specs.declared.tree.PairsTree.{PairsTree}
+use Rattle.ep_tree.specs.declared.tree.PairsTree.TheVariants.{All, Same, Listed}
+use Rattle.ep_tree.specs.declared.tree.LinkTree.{LinkTree}
 use Rattle.ep_types.specs.Names.{Text, is_text}
 use Rattle.ep_types.specs.declared.scope.Declared.{Declared}
 use Rattle.ep_universe.specs.Objects.{Binding, agents_of, group_of}

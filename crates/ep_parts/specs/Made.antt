@@ -4,8 +4,8 @@ use Rattle.ep_logic.specs.declared.ids.EventId.{EventId}
 use Rattle.ep_kripke.specs.declared.parts.Link.{Link}
 use Rattle.ep_kripke.specs.Parts.{link}
 use Rattle.ep_event.specs.declared.parts.EventLink.{EventLink}
-use Rattle.ep_syntax.specs.declared.tree.LinkTree.{LinkTree}
-use Rattle.ep_syntax.specs.declared.tree.PairsTree.TheVariants.{Same}
+use Rattle.ep_tree.specs.declared.tree.LinkTree.{LinkTree}
+use Rattle.ep_tree.specs.declared.tree.PairsTree.TheVariants.{Same}
 use Rattle.ep_types.specs.Names.{Text}
 use Rattle.ep_types.specs.declared.scope.Declared.{Declared}
 use Rattle.ep_universe.specs.Objects.{Binding}

@@ -4,10 +4,10 @@ use Rattle.ep_kripke.specs.declared.parts.StateParts.{StateParts}
 use Rattle.ep_kripke.specs.Parts.{world}
 use Rattle.ep_event.specs.declared.parts.ActionParts.{ActionParts}
 use Rattle.ep_event.specs.Built.{event_of as built_event}
-use Rattle.ep_syntax.specs.declared.tree.Name.{Name}
-use Rattle.ep_syntax.specs.declared.tree.LinkTree.{LinkTree}
-use Rattle.ep_syntax.specs.declared.tree.EventTree.{EventTree}
-use Rattle.ep_syntax.specs.declared.tree.WorldTree.{WorldTree}
+use Rattle.ep_tree.specs.declared.tree.Name.{Name}
+use Rattle.ep_tree.specs.declared.tree.LinkTree.{LinkTree}
+use Rattle.ep_tree.specs.declared.tree.EventTree.{EventTree}
+use Rattle.ep_tree.specs.declared.tree.WorldTree.{WorldTree}
 use Rattle.ep_types.specs.Tasks.{event_names, world_names}
 use Rattle.ep_types.specs.declared.scope.Declared.{Declared}
 use Rattle.ep_universe.specs.Objects.{Binding}

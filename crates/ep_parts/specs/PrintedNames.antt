@@ -3,7 +3,7 @@ use Rattle.std.specs.Prelude.{ℕ, List, [], map, slice_index_or, All}
 use Rattle.std.specs.List.{flat_map}
 use Rattle.ep_binding.specs.Bindings.{IsApart}
 use Rattle.ep_name.specs.Names.{printed, IsPlain}
-use Rattle.ep_syntax.specs.declared.tree.SchemaTree.{SchemaTree}
+use Rattle.ep_tree.specs.declared.tree.SchemaTree.{SchemaTree}
 use Rattle.ep_types.specs.Names.{Text, names_of}
 use Rattle.ep_types.specs.declared.scope.Declared.{Declared}
 use Rattle.ep_universe.specs.Objects.{agents_of}

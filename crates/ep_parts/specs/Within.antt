@@ -1,7 +1,7 @@
 -- What is known of a task within the limits: everything of it can be built.
 use Rattle.std.specs.Prelude.{ℕ, ◌<◌, ◌≤◌, length, All}
-use Rattle.ep_syntax.specs.declared.tree.SchemaTree.{SchemaTree}
-use Rattle.ep_syntax.specs.declared.tree.TaskTree.{TaskTree}
+use Rattle.ep_tree.specs.declared.tree.SchemaTree.{SchemaTree}
+use Rattle.ep_tree.specs.declared.tree.TaskTree.{TaskTree}
 use Rattle.ep_types.specs.declared.scope.Declared.{Declared}
 use Rattle.ep_universe.specs.Limits.{IsWithin}
 use Rattle.ep_universe.specs.Sizes.{IsBuildable, AreBuildable}

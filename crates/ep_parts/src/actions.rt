@@ -19,7 +19,7 @@ use crate::body_error::BodyError;
 use crate::links::{event_ids, event_links, event_table};
 use ep_event::{Action, ActionError, ActionParts, Assign, EventParts};
 use ep_logic::{List, OutOfMemory};
-use ep_syntax::{BodyTree, EventTree, FormulaTree, GroupTree, LinkTree, Name, SetTree};
+use ep_tree::{BodyTree, EventTree, FormulaTree, GroupTree, LinkTree, Name, SetTree};
 use ep_universe::formula::ground_form;
 use ep_universe::objects::Bound;
 use ep_universe::universe::Universe;

@@ -6,7 +6,7 @@ ghost use Rattle.ep_parts.specs.Actions as spec;
 
 use ep_binding::{binding_count, distinct_count};
 use ep_logic::OutOfMemory;
-use ep_syntax::SchemaTree;
+use ep_tree::SchemaTree;
 use ep_types::Typed;
 use ep_universe::objects::candidates;
 use std::alloc::Global;

@@ -12,7 +12,7 @@ ghost use Rattle.ep_parts.specs.Parts.{AreStateParts};
 use crate::links::{world_ids, world_links, world_table};
 use ep_kripke::{State, StateError, StateParts};
 use ep_logic::{Bits, List, OutOfMemory};
-use ep_syntax::{AtomTree, LinkTree, Name, WorldTree};
+use ep_tree::{AtomTree, LinkTree, Name, WorldTree};
 use ep_universe::universe::Universe;
 use std::alloc::Global;
 

@@ -2,7 +2,7 @@
 
 ghost use Rattle.std.specs.Prelude.{List};
 ghost use Rattle.ep_binding.specs.Bindings.{IsApart};
-ghost use Rattle.ep_syntax.specs.declared.tree.SchemaTree.{SchemaTree};
+ghost use Rattle.ep_tree.specs.declared.tree.SchemaTree.{SchemaTree};
 ghost use Rattle.ep_types.specs.declared.scope.Declared.{Declared};
 ghost use Rattle.ep_parts.specs.PrintedNames.{AreNames, action_names};
 

@@ -19,6 +19,3 @@ pub use body_error::BodyError;
 pub use fault::GroundError;
 pub use initial::explicit_state;
 pub use limits::{check_limits, check_worlds};
-
-#[cfg(test)]
-mod tests;

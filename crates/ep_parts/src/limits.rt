@@ -8,7 +8,7 @@ ghost use Rattle.ep_parts.specs.Actions.{actions_of, schema_bindings};
 ghost use Rattle.ep_parts.specs.Faults as faults;
 ghost use Rattle.ep_parts.specs.Faults.{above, first_of, limit_fault, node_total, too_large, too_many_events, when};
 ghost use Rattle.ep_parts.specs.Judged.{IsJudged, told};
-ghost use Rattle.ep_parts.specs.Task.{IsRead};
+ghost use Rattle.ep_tree.specs.Grammar.{IsRead};
 ghost use Rattle.ep_parts.specs.Within.{IsWithinLimits};
 ghost use Rattle.ep_parts.specs.Written.{task_formulas};
 ghost use Rattle.ep_parts.specs.declared.fault.GroundError.TheVariants.{NoAgent, TooLargeTask, TooManyActions, TooManyAgents, TooManyAtoms, TooManyObjects};
@@ -16,7 +16,7 @@ ghost use Rattle.ep_parts.specs.declared.fault.GroundError.TheVariants.{NoAgent,
 use crate::counts::action_count;
 use crate::fault::GroundError;
 use crate::written::{node_total, task_formulas};
-use ep_syntax::{BodyTree, SchemaTree, WorldTree};
+use ep_tree::{BodyTree, SchemaTree, WorldTree};
 use ep_types::Typed;
 use ep_universe::atoms::atom_count;
 use ep_universe::objects::objects_of;

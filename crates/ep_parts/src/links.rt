@@ -4,7 +4,7 @@ ghost use Rattle.std.specs.Prelude.{◌≡◌, ◌<◌, ◌≤◌, ◌==◌, tru
 ghost use Rattle.std.specs.Option.{option_copied};
 ghost use Rattle.ep_binding.specs.Bindings.{IsApart};
 ghost use Rattle.ep_kripke.specs.Parts.{world};
-ghost use Rattle.ep_syntax.specs.declared.tree.PairsTree.TheVariants.{Same};
+ghost use Rattle.ep_tree.specs.declared.tree.PairsTree.TheVariants.{Same};
 ghost use Rattle.ep_theory.specs.Numbers.{numbers_where, pairs_where, table};
 ghost use Rattle.ep_types.specs.Tasks.{event_names, world_names};
 ghost use Rattle.ep_parts.specs.Links.{agent_count, last_pairs, pair_of, place_of, written_pairs};
@@ -15,7 +15,7 @@ use ep_event::EventLink;
 use ep_kripke::Link;
 use ep_logic::{AgentId, EventId, List, OutOfMemory, WorldId};
 use ep_name::NameTable;
-use ep_syntax::{EventTree, LinkTree, Name, PairTree, PairsTree, WorldTree};
+use ep_tree::{EventTree, LinkTree, Name, PairTree, PairsTree, WorldTree};
 use ep_universe::objects::Bound;
 use ep_universe::universe::Universe;
 use std::alloc::Global;

@@ -8,7 +8,7 @@ ghost use Rattle.ep_parts.specs.PrintedNames as spec;
 
 use ep_logic::{List, OutOfMemory, Text};
 use ep_name::printed;
-use ep_syntax::{Name, SchemaTree};
+use ep_tree::{Name, SchemaTree};
 use ep_types::Typed;
 use ep_universe::atoms::{GroundAtom, atoms_of};
 use ep_universe::objects::objects_of;

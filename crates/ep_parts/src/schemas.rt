@@ -17,7 +17,7 @@ use ep_binding::{bindings, distinct_bindings, distinct_count};
 use ep_event::Action;
 use ep_logic::{List, OutOfMemory, Text};
 use ep_name::printed;
-use ep_syntax::SchemaTree;
+use ep_tree::SchemaTree;
 use ep_universe::objects::wider;
 use ep_universe::universe::Universe;
 use std::alloc::Global;

@@ -10,7 +10,7 @@ use crate::names::copied;
 use crate::schemas::schema_bindings;
 use ep_logic::{List, OutOfMemory, Text};
 use ep_name::{NameTable, printed};
-use ep_syntax::SchemaTree;
+use ep_tree::SchemaTree;
 use ep_universe::universe::Universe;
 use std::alloc::Global;
 

@@ -10,7 +10,7 @@ ghost use Rattle.ep_parts.specs.Written as spec;
 use crate::counts::schema_count;
 use crate::fault::GroundError;
 use ep_logic::{List, OutOfMemory};
-use ep_syntax::{BodyTree, EventTree, FormulaTree, InitTree, SchemaTree, SetTree};
+use ep_tree::{BodyTree, EventTree, FormulaTree, InitTree, SchemaTree, SetTree};
 use ep_types::Typed;
 use ep_universe::count::{count_nodes, first_token};
 use std::alloc::Global;
@@ -28,7 +28,7 @@ impl<'a> Model for WrittenFormula<'a> {
 
     ghost Value = { Written };
 
-    ghost use Rattle.ep_syntax.specs.contracts.tree.FormulaTree as formulas;
+    ghost use Rattle.ep_tree.specs.contracts.tree.FormulaTree as formulas;
     ghost use Rattle.std.specs.Coded.{codes};
 
     ghost coded = { Prim.hlevel (codes, formulas.the_row.coded) };

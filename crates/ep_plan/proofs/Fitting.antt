@@ -6,7 +6,7 @@ use Rattle.ep_logic.specs.declared.formula.Node.{Node}
 use Rattle.ep_theory.specs.Kripke.{Kripke}
 use Rattle.ep_theory.specs.Events.{Event, EventModel}
 use Rattle.ep_theory.specs.Fits.{Fits, SetFits, EventFits, ActionFits, fits_in}
-use Rattle.ep_problem.specs.PlanningTask.{PlanningTask, IsPlanningTask}
+use Rattle.ep_theory.specs.PlanningTask.{PlanningTask, IsPlanningTask}
 use Rattle.ep_problem.specs.Plans.{after}
 use Rattle.ep_problem.proofs.Runs.{after_state}
 

@@ -11,7 +11,7 @@ use Rattle.ep_update.specs.declared.update.Size.{Size}
 use Rattle.ep_update.specs.declared.update.UpdateError.{UpdateError}
 use Rattle.ep_update.specs.declared.update.UpdateError.TheVariants.{Inapplicable, TooManyWorlds, TooManyLinks, OutOfMemory}
 use Rattle.ep_update.specs.Updates.{IsWithin, IsRefusal}
-use Rattle.ep_problem.specs.PlanningTask.{PlanningTask, IsPlanningTask}
+use Rattle.ep_theory.specs.PlanningTask.{PlanningTask, IsPlanningTask}
 use Rattle.ep_problem.specs.Plans.{after}
 use Rattle.ep_problem.proofs.Steps.{step_some, all_get}
 use Rattle.ep_problem.proofs.Runs.{after-snoc, after_state}

@@ -10,7 +10,7 @@ use Rattle.ep_theory.specs.Product.{IsApplicable, product_of}
 use Rattle.ep_update.specs.declared.update.Size.{Size}
 use Rattle.ep_update.specs.declared.update.UpdateError.TheVariants.{TooManyWorlds, TooManyLinks}
 use Rattle.ep_update.specs.Updates.{IsWithin, IsRefusal}
-use Rattle.ep_problem.specs.PlanningTask.{PlanningTask}
+use Rattle.ep_theory.specs.PlanningTask.{PlanningTask}
 use Rattle.ep_plan.specs.declared.runs.Outcome.{Outcome}
 use Rattle.ep_plan.specs.declared.runs.Outcome.TheVariants.{After, Stuck, SpentWorlds, SpentLinks}
 use Rattle.ep_plan.specs.declared.verdicts.Verdict.{Verdict}

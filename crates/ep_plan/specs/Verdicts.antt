@@ -4,7 +4,7 @@ use Rattle.std.specs.Prelude.{ℕ, List}
 use Rattle.ep_logic.specs.declared.ids.ActionId.{ActionId}
 use Rattle.ep_theory.specs.Kripke.{Kripke}
 use Rattle.ep_update.specs.declared.update.Size.{Size}
-use Rattle.ep_problem.specs.PlanningTask.{PlanningTask}
+use Rattle.ep_theory.specs.PlanningTask.{PlanningTask}
 use Rattle.ep_problem.specs.Plans.{Reaches}
 use Rattle.ep_plan.specs.declared.runs.Outcome.TheVariants.{After, Stuck, SpentWorlds, SpentLinks}
 use Rattle.ep_plan.specs.declared.verdicts.Verdict.{Verdict}

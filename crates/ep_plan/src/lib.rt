@@ -3,8 +3,6 @@
 
 pub mod laws;
 mod runs;
-#[cfg(test)]
-mod tests;
 mod verdicts;
 
 pub use runs::{Outcome, plan_fits, run_plan};

@@ -3,7 +3,7 @@ ghost use Rattle.ep_theory.specs.Events.{EventModel};
 ghost use Rattle.ep_theory.specs.Product.{IsApplicable, product_of};
 ghost use Rattle.ep_update.specs.Updates.{IsWithin, IsRefusal};
 ghost use Rattle.ep_update.specs.declared.update.UpdateError.TheVariants as refused;
-ghost use Rattle.ep_problem.specs.PlanningTask.{IsPlanningTask};
+ghost use Rattle.ep_theory.specs.PlanningTask.{IsPlanningTask};
 ghost use Rattle.ep_plan.specs.Runs.{RunUnder, AreOf, product_count};
 ghost use Rattle.ep_plan.specs.Stops.{stop_of};
 

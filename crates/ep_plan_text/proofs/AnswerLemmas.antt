@@ -8,8 +8,8 @@ use Rattle.ep_lex.specs.Tokens.{HasTooManyTokens, Lexed, end_line_of, line_at, s
 use Rattle.ep_lex.proofs.Faults.{stray-unique, stray-no_tokens}
 use Rattle.ep_lex.proofs.TokenLaws.{tokens-unique}
 use Rattle.ep_logic.specs.declared.ids.ActionId.{ActionId}
-use Rattle.ep_syntax.specs.declared.tree.PlanTree.{PlanTree}
-use Rattle.ep_syntax.specs.Grammar.{plans, SyntaxAt, Reads}
+use Rattle.ep_tree.specs.declared.tree.PlanTree.{PlanTree}
+use Rattle.ep_tree.specs.Grammar.{plans, SyntaxAt, Reads}
 use Rattle.ep_parts.specs.Task.{GroundTask}
 use Rattle.ep_plan_text.specs.declared.read.PlanError.{PlanError}
 use Rattle.ep_plan_text.specs.declared.read.PlanError.TheVariants as error

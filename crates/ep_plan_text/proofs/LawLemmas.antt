@@ -12,22 +12,22 @@ use Rattle.ep_lex.specs.Tokens.{AreTokens, tokens_behind, spelling, spellings}
 use Rattle.ep_lex.proofs.TokenLaws.{spellings-are}
 use Rattle.ep_logic.specs.declared.ids.ActionId.{ActionId}
 use Rattle.ep_name.specs.Names.{printed}
-use Rattle.ep_syntax.specs.declared.terminal.Terminal.TheVariants as the
-use Rattle.ep_syntax.specs.declared.tree.Name.{Name}
-use Rattle.ep_syntax.specs.declared.tree.CallTree.{CallTree}
-use Rattle.ep_syntax.specs.declared.tree.ObjectTree.{ObjectTree}
-use Rattle.ep_syntax.specs.declared.tree.PlanTree.{PlanTree}
-use Rattle.ep_syntax.specs.declared.tree.SchemaTree.{SchemaTree}
-use Rattle.ep_syntax.specs.declared.tree.TaskTree.{TaskTree}
-use Rattle.ep_syntax.specs.Bare.{bare_names, bare_call, bare_plan}
-use Rattle.ep_syntax.specs.Formed.{Each, OneOrMore, IsFormedName, IsFormedCall, IsFormedPlan, IsFormedObject, IsFormedSchema}
-use Rattle.ep_syntax.specs.Grammar.{plans, spelling_of, Reads}
-use Rattle.ep_syntax.specs.Marks.{fixed, named}
+use Rattle.ep_tree.specs.declared.terminal.Terminal.TheVariants as the
+use Rattle.ep_tree.specs.declared.tree.Name.{Name}
+use Rattle.ep_tree.specs.declared.tree.CallTree.{CallTree}
+use Rattle.ep_tree.specs.declared.tree.ObjectTree.{ObjectTree}
+use Rattle.ep_tree.specs.declared.tree.PlanTree.{PlanTree}
+use Rattle.ep_tree.specs.declared.tree.SchemaTree.{SchemaTree}
+use Rattle.ep_tree.specs.declared.tree.TaskTree.{TaskTree}
+use Rattle.ep_tree.specs.Bare.{bare_names, bare_call, bare_plan}
+use Rattle.ep_tree.specs.Formed.{Each, OneOrMore, IsFormedName, IsFormedCall, IsFormedPlan, IsFormedObject, IsFormedSchema}
+use Rattle.ep_tree.specs.Grammar.{plans, spelling_of, Reads}
+use Rattle.ep_tree.specs.Marks.{fixed, named}
 use Rattle.ep_syntax.specs.PlanReading.{plan as plan_reader}
-use Rattle.ep_syntax.specs.Spelling as spell
-use Rattle.ep_syntax.specs.Spelling.{behind}
-use Rattle.ep_syntax.specs.Terminals.{is_name}
-use Rattle.ep_syntax.proofs.MarkLists.{length-texts}
+use Rattle.ep_tree.specs.Spelling as spell
+use Rattle.ep_tree.specs.Spelling.{behind}
+use Rattle.ep_tree.specs.Terminals.{is_name}
+use Rattle.ep_tree.proofs.MarkTexts.{length-texts}
 use Rattle.ep_syntax.proofs.PlanLaws.{plan_outcome, plan_shallow}
 use Rattle.ep_syntax.proofs.Readable.{found, found_reads, found_same}
 use Rattle.ep_types.specs.Atoms.{texts as name_texts}
@@ -37,7 +37,8 @@ use Rattle.ep_types.specs.declared.scope.Declared.{Declared}
 use Rattle.ep_universe.specs.Objects.{candidates, objects_of}
 use Rattle.ep_parts.specs.Actions.{schema_bindings}
 use Rattle.ep_parts.specs.PrintedNames.{object_name, action_name, schema_names, action_names}
-use Rattle.ep_parts.specs.Task.{GroundTask, IsRead}
+use Rattle.ep_parts.specs.Task.{GroundTask}
+use Rattle.ep_tree.specs.Grammar.{IsRead}
 use Rattle.ep_ground.specs.Grounding.{task_of}
 use Rattle.ep_parts.proofs.CandidateLemmas.{few_params, HasFewParams}
 use Rattle.ep_parts.proofs.NameLemmas.{AreBelow, objects-declared, schema-below}

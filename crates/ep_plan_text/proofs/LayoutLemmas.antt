@@ -12,18 +12,18 @@ use Rattle.ep_lex.specs.declared.token.PieceKind.TheVariants.{Blank, Comment, Sp
 use Rattle.ep_lex.specs.Pieces.{is_letter, is_word_byte, is_piece, ends, Piece, Split}
 use Rattle.ep_lex.proofs.TokenLaws.{texts_of}
 use Rattle.ep_name.specs.Names.{printed}
-use Rattle.ep_syntax.specs.declared.terminal.Terminal.TheVariants as the
-use Rattle.ep_syntax.specs.declared.tree.Name.{Name}
-use Rattle.ep_syntax.specs.declared.tree.CallTree.{CallTree}
-use Rattle.ep_syntax.specs.declared.tree.PlanTree.{PlanTree}
-use Rattle.ep_syntax.specs.Formed.{Each, IsFormedName, IsFormedCall}
-use Rattle.ep_syntax.specs.Marks.{Mark, fixed, named, texts}
-use Rattle.ep_syntax.specs.Spelling as spell
-use Rattle.ep_syntax.specs.Spelling.{behind}
-use Rattle.ep_syntax.specs.Terminals.{is_name}
+use Rattle.ep_tree.specs.declared.terminal.Terminal.TheVariants as the
+use Rattle.ep_tree.specs.declared.tree.Name.{Name}
+use Rattle.ep_tree.specs.declared.tree.CallTree.{CallTree}
+use Rattle.ep_tree.specs.declared.tree.PlanTree.{PlanTree}
+use Rattle.ep_tree.specs.Formed.{Each, IsFormedName, IsFormedCall}
+use Rattle.ep_tree.specs.Marks.{Mark, fixed, named, texts}
+use Rattle.ep_tree.specs.Spelling as spell
+use Rattle.ep_tree.specs.Spelling.{behind}
+use Rattle.ep_tree.specs.Terminals.{is_name}
 use Rattle.ep_syntax.proofs.CountLaws.{written_count}
 use Rattle.ep_syntax.proofs.Laws.{both_then}
-use Rattle.ep_syntax.proofs.MarkLists.{texts-append}
+use Rattle.ep_tree.proofs.MarkTexts.{texts-append}
 use Rattle.ep_syntax.proofs.Sources.{both_true}
 use Rattle.ep_types.specs.Atoms.{texts as name_texts}
 use Rattle.ep_types.specs.Names.{Text}

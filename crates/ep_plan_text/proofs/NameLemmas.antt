@@ -4,7 +4,7 @@ use Rattle.std.specs.List.{join_with_byte}
 use Rattle.std.proofs.lemmas.List.{append_assoc, map-append, take_more, length-map, length-take-le}
 use Rattle.ep_name.specs.Names.{mark_before}
 use Rattle.ep_name.proofs.PrintLemmas.{opened}
-use Rattle.ep_syntax.specs.declared.tree.Name.{Name}
+use Rattle.ep_tree.specs.declared.tree.Name.{Name}
 
 join-push : (o : List ℕ) (os : List (List ℕ)) (p : List ℕ) → join_with_byte 44 (o ∷ os ++ p ∷ []) ≡ join_with_byte 44 (o ∷ os) ++ 44 ∷ p
 join-push o [] p = refl

@@ -5,17 +5,17 @@ use Rattle.std.proofs.lemmas.List.Elements.{All-nil, All-cons}
 use Rattle.ep_lex.specs.declared.token.Token.{Token}
 use Rattle.ep_lex.specs.Tokens.{spellings}
 use Rattle.ep_lex.proofs.TokenLaws.{tokens-unique}
-use Rattle.ep_syntax.specs.declared.terminal.Terminal.TheVariants as the
-use Rattle.ep_syntax.specs.declared.tree.Name.{Name}
-use Rattle.ep_syntax.specs.declared.tree.CallTree.{CallTree}
-use Rattle.ep_syntax.specs.declared.tree.PlanTree.{PlanTree}
-use Rattle.ep_syntax.specs.Bare.{bare_name, bare_names, bare_call, bare_plan}
-use Rattle.ep_syntax.specs.Grammar.{plans, Reads}
-use Rattle.ep_syntax.specs.Marks.{Mark, fixed, named, PlacedFrom}
+use Rattle.ep_tree.specs.declared.terminal.Terminal.TheVariants as the
+use Rattle.ep_tree.specs.declared.tree.Name.{Name}
+use Rattle.ep_tree.specs.declared.tree.CallTree.{CallTree}
+use Rattle.ep_tree.specs.declared.tree.PlanTree.{PlanTree}
+use Rattle.ep_tree.specs.Bare.{bare_name, bare_names, bare_call, bare_plan}
+use Rattle.ep_tree.specs.Grammar.{plans, Reads}
+use Rattle.ep_tree.specs.Marks.{Mark, fixed, named, PlacedFrom}
 use Rattle.ep_syntax.specs.PlanReading.{plan}
-use Rattle.ep_syntax.specs.Spelling as spell
-use Rattle.ep_syntax.specs.Spelling.{behind}
-use Rattle.ep_syntax.proofs.MarkLists.{length-texts}
+use Rattle.ep_tree.specs.Spelling as spell
+use Rattle.ep_tree.specs.Spelling.{behind}
+use Rattle.ep_tree.proofs.MarkTexts.{length-texts}
 use Rattle.ep_syntax.proofs.PlanLaws.{plan_outcome}
 use Rattle.ep_syntax.proofs.Readable.{only_same}
 use Rattle.ep_plan_text.specs.PlanFiles.{IsFile}

@@ -2,7 +2,7 @@
 use Rattle.std.specs.Prelude.{◌≡◌, ◌≢◌, List, [], ◌∷◌, ◌++◌, Some, All, slice_get}
 use Rattle.ep_logic.specs.declared.ids.ActionId.{ActionId}
 use Rattle.ep_name.specs.Names.{printed}
-use Rattle.ep_syntax.specs.declared.tree.CallTree.{CallTree}
+use Rattle.ep_tree.specs.declared.tree.CallTree.{CallTree}
 use Rattle.ep_types.specs.Atoms.{texts}
 use Rattle.ep_types.specs.Names.{Text}
 use Rattle.ep_parts.specs.Task.{GroundTask}

@@ -4,9 +4,9 @@ use Rattle.ep_lex.specs.declared.token.Token.{Token}
 use Rattle.ep_lex.specs.Pieces.{IsStray}
 use Rattle.ep_lex.specs.Tokens.{AreTokens, HasTooManyTokens, end_line_of, line_at, spellings}
 use Rattle.ep_logic.specs.declared.ids.ActionId.{ActionId}
-use Rattle.ep_syntax.specs.declared.tree.CallTree.{CallTree}
-use Rattle.ep_syntax.specs.declared.tree.PlanTree.{PlanTree}
-use Rattle.ep_syntax.specs.Grammar.{plans, Reads, SyntaxAt}
+use Rattle.ep_tree.specs.declared.tree.CallTree.{CallTree}
+use Rattle.ep_tree.specs.declared.tree.PlanTree.{PlanTree}
+use Rattle.ep_tree.specs.Grammar.{plans, Reads, SyntaxAt}
 use Rattle.ep_parts.specs.Task.{GroundTask}
 use Rattle.ep_plan_text.specs.Calls.{NameActions, IsFirstUnknown}
 use Rattle.ep_plan_text.specs.declared.read.PlanError.{PlanError}

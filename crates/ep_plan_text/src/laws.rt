@@ -2,9 +2,10 @@
 
 ghost use Rattle.std.specs.Prelude.{◌≡◌, ◌≢◌, ℕ, ◌<◌, ◌≤◌, List, All, AllPairs, length};
 ghost use Rattle.ep_logic.specs.declared.ids.ActionId.{ActionId};
-ghost use Rattle.ep_syntax.specs.declared.tree.TaskTree.{TaskTree};
+ghost use Rattle.ep_tree.specs.declared.tree.TaskTree.{TaskTree};
 ghost use Rattle.ep_types.specs.Tasks.{HasNoFault};
-ghost use Rattle.ep_parts.specs.Task.{GroundTask, IsRead};
+ghost use Rattle.ep_parts.specs.Task.{GroundTask};
+ghost use Rattle.ep_tree.specs.Grammar.{IsRead};
 ghost use Rattle.ep_ground.specs.Grounding.{task_of};
 ghost use Rattle.ep_plan_text.specs.PlanFiles.{IsFault, IsPlan};
 ghost use Rattle.ep_plan_text.specs.PlanText.{plan_text};

@@ -7,6 +7,3 @@ mod read;
 
 pub use print::{Mark, print_actions, print_plan};
 pub use read::{PlanError, read_plan};
-
-#[cfg(test)]
-mod tests;

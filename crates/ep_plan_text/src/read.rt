@@ -13,7 +13,8 @@ use ep_ground::Task;
 use ep_lex::{LexError, TokenList, tokens};
 use ep_logic::{List, OutOfMemory as NoMemory};
 use ep_problem::Plan;
-use ep_syntax::{CallTree, PlanTree, SyntaxError, read_plan_lines};
+use ep_syntax::{SyntaxError, read_plan_lines};
+use ep_tree::{CallTree, PlanTree};
 use std::alloc::Global;
 
 /// Why bytes are no plan of a task.

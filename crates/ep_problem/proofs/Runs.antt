@@ -6,7 +6,7 @@ use Rattle.ep_theory.specs.Kripke.{Kripke, IsState}
 use Rattle.ep_theory.specs.Bisimulation.{Bisimilar}
 use Rattle.ep_theory.proofs.Equivalence.{bisimilar_sym}
 use Rattle.ep_theory.proofs.SameTruth.{same_at_all}
-use Rattle.ep_problem.specs.PlanningTask.{PlanningTask, IsPlanningTask}
+use Rattle.ep_theory.specs.PlanningTask.{PlanningTask, IsPlanningTask}
 use Rattle.ep_problem.specs.Plans.{step, after_from, after, Satisfies, Reaches}
 use Rattle.ep_problem.proofs.Steps.{step-initial, step_state, step_alike}
 

@@ -9,7 +9,7 @@ use Rattle.ep_theory.specs.Product.{IsApplicable, stuck_world, product_of}
 use Rattle.ep_theory.specs.Bisimulation.{Bisimilar}
 use Rattle.ep_theory.proofs.ProductLaws.{stuck_none}
 use Rattle.ep_theory.proofs.ProductLemmas.{product-is_state, products_bisimilar, applicable_alike}
-use Rattle.ep_problem.specs.PlanningTask.{PlanningTask, IsPlanningTask}
+use Rattle.ep_theory.specs.PlanningTask.{PlanningTask, IsPlanningTask}
 use Rattle.ep_problem.specs.Plans.{step, product_unless}
 
 pub all_get : {A : Type 0} (P : A → Type 0) (xs : List A) (i : ℕ) (x : A) → AllByRecursion P xs → slice_get xs i ≡ Some x → P x

@@ -1,2 +1,1 @@
-pub mod PlanningTask
 pub mod Plans

@@ -9,7 +9,7 @@ use Rattle.ep_theory.specs.Kripke.{Kripke}
 use Rattle.ep_theory.specs.Truth.{Truth}
 use Rattle.ep_theory.specs.Events.{EventModel}
 use Rattle.ep_theory.specs.Product.{stuck_world, product_of}
-use Rattle.ep_problem.specs.PlanningTask.{PlanningTask}
+use Rattle.ep_theory.specs.PlanningTask.{PlanningTask}
 
 -- the product, where no world is stuck
 abbrev pub product_unless : Option ℕ → Kripke → EventModel → Option Kripke

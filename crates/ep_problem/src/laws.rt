@@ -6,7 +6,7 @@ ghost use Rattle.ep_theory.specs.Kripke.{Kripke, IsState};
 ghost use Rattle.ep_theory.specs.Events.{EventModel};
 ghost use Rattle.ep_theory.specs.Product.{IsApplicable, product_of};
 ghost use Rattle.ep_theory.specs.Bisimulation.{Bisimilar};
-ghost use Rattle.ep_problem.specs.PlanningTask.{PlanningTask, IsPlanningTask};
+ghost use Rattle.ep_theory.specs.PlanningTask.{PlanningTask, IsPlanningTask};
 ghost use Rattle.ep_problem.specs.Plans.{step, after_from, after, Reaches};
 
 /// A step leads to the product with the action, exactly where the task has it and it is applicable.

@@ -4,8 +4,6 @@
 mod fitting;
 pub mod laws;
 mod problem;
-#[cfg(test)]
-mod tests;
 
 pub use fitting::actions_fit;
 pub use problem::{Plan, Problem};

@@ -2,7 +2,7 @@ ghost use Rattle.std.specs.Prelude.{◌≡◌, ◌<◌, ◌≤◌, Some, length,
 ghost use Rattle.std.specs.List.{AllByRecursion};
 ghost use Rattle.ep_theory.specs.Events.{IsAction};
 ghost use Rattle.ep_theory.specs.Fits.{Fits, ActionFits};
-ghost use Rattle.ep_problem.specs.PlanningTask.{IsPlanningTask, IsSmall};
+ghost use Rattle.ep_theory.specs.PlanningTask.{IsPlanningTask, IsSmall};
 
 use ep_event::Action;
 use ep_kripke::State;
@@ -25,7 +25,7 @@ pub struct Problem {
 impl Model for Problem {
     ghost use Rattle.ep_logic.specs.contracts.formula.Node as e;
     ghost use Rattle.std.specs.Coded.{codes};
-    ghost use Rattle.ep_problem.specs.PlanningTask.{PlanningTask, IsPlanningTask, IsSmall};
+    ghost use Rattle.ep_theory.specs.PlanningTask.{PlanningTask, IsPlanningTask, IsSmall};
 
     ghost Value = { PlanningTask };
 

@@ -13,6 +13,3 @@ pub use class_list::{ClassList, classes};
 pub use images::image;
 pub use kept::{keeps_designated, restrict};
 pub use reach::reachable;
-
-#[cfg(test)]
-mod tests;

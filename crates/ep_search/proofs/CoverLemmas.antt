@@ -5,7 +5,7 @@ use Rattle.ep_logic.specs.declared.ids.ActionId.{ActionId}
 use Rattle.ep_theory.specs.Kripke.{Kripke}
 use Rattle.ep_problem.specs.Plans.{after_from, Reaches}
 use Rattle.ep_search.specs.Alike.{Alike}
-use Rattle.ep_problem.specs.PlanningTask.{PlanningTask}
+use Rattle.ep_theory.specs.PlanningTask.{PlanningTask}
 use Rattle.ep_search.proofs.AlikeLemmas.{Alike-sym, Satisfies-Alike}
 use Rattle.ep_store.specs.declared.entry.Entry.{Entry}
 use Rattle.ep_store.specs.Stored.{Has}

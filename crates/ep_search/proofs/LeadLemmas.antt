@@ -9,7 +9,7 @@ use Rattle.ep_theory.proofs.Equivalence.{bisimilar_sym}
 use Rattle.ep_theory.proofs.ProductLemmas.{product-is_state}
 use Rattle.ep_update.specs.Updates.{IsProductUpTo}
 use Rattle.ep_search.specs.Made.{AppliesNowhere, IsMade}
-use Rattle.ep_problem.specs.PlanningTask.{PlanningTask, IsPlanningTask}
+use Rattle.ep_theory.specs.PlanningTask.{PlanningTask, IsPlanningTask}
 use Rattle.ep_problem.specs.Plans.{Satisfies}
 use Rattle.ep_problem.proofs.Runs.{after_state}
 use Rattle.std.specs.List.{AllByRecursion}

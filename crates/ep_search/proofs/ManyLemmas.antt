@@ -6,7 +6,7 @@ use Rattle.ep_logic.specs.declared.ids.ActionId.{ActionId}
 use Rattle.ep_theory.specs.Kripke.{Kripke}
 use Rattle.ep_search.specs.Alike.{Alike}
 use Rattle.ep_theory.specs.Canonical.{IsCanonical}
-use Rattle.ep_problem.specs.PlanningTask.{PlanningTask}
+use Rattle.ep_theory.specs.PlanningTask.{PlanningTask}
 use Rattle.ep_search.specs.Within.{OpenWithin, ManyWithin}
 use Rattle.ep_search.proofs.AlikeLemmas.{to_Alike, from_Alike, Alike-sym, Alike-trans, IsCanonical-unique}
 use Rattle.ep_store.specs.declared.entry.Entry.{Entry}

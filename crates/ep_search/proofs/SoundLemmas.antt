@@ -7,7 +7,7 @@ use Rattle.ep_logic.specs.declared.ids.StateId.{StateId}
 use Rattle.ep_theory.specs.Kripke.{Kripke}
 use Rattle.ep_problem.specs.Plans.{Satisfies}
 use Rattle.ep_theory.specs.Canonical.{IsCanonical}
-use Rattle.ep_problem.specs.PlanningTask.{PlanningTask}
+use Rattle.ep_theory.specs.PlanningTask.{PlanningTask}
 use Rattle.ep_store.specs.declared.entry.Entry.{Entry}
 use Rattle.ep_store.specs.Stored.{Has, Lacks}
 use Rattle.ep_store.proofs.PlaceLemmas.{at_push_old, at_push_cases, at_set_same, at_set_other, at_set_cases}

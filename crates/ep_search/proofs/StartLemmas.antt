@@ -2,13 +2,13 @@
 use Rattle.std.proofs.Common.{◌≡◌, ℕ, zero, suc, ◌+◌, ◌<◌, ◌≤◌, ◌⊎◌, inl, inr, List, [], ◌∷◌, length, slice_get, get_or, Some, None, Result, Ok, Err, IfOk, Vec, Global, refl, sym, ap, ◌∙◌, subst, arith}
 use Rattle.std.proofs.lemmas.Option.{same_Some, none-some}
 use Rattle.ep_logic.specs.declared.ids.ActionId.{ActionId}
-use Rattle.ep_logic.specs.declared.memory.OutOfMemory.{OutOfMemory}
+use Rattle.ep_base.specs.declared.memory.OutOfMemory.{OutOfMemory}
 use Rattle.ep_theory.specs.Kripke.{Kripke, IsState}
 use Rattle.ep_problem.specs.Plans.{Satisfies, Reaches}
 use Rattle.ep_theory.specs.Canonical.{IsCanonical, Contracts}
 use Rattle.ep_search.specs.Alike.{Alike}
 use Rattle.ep_search.specs.Limits.{IsBounds}
-use Rattle.ep_problem.specs.PlanningTask.{PlanningTask}
+use Rattle.ep_theory.specs.PlanningTask.{PlanningTask}
 use Rattle.ep_guide.specs.declared.frontier.Waiting.{Waiting}
 use Rattle.ep_guide.specs.Asked.{Rose}
 use Rattle.ep_search.specs.Kept.{Kept}

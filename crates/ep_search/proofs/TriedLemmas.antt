@@ -10,7 +10,7 @@ use Rattle.ep_logic.specs.declared.ids.StateId.{StateId}
 use Rattle.ep_theory.specs.Kripke.{Kripke}
 use Rattle.ep_problem.specs.Plans.{Satisfies, Reaches, after}
 use Rattle.ep_theory.specs.Canonical.{IsCanonical}
-use Rattle.ep_problem.specs.PlanningTask.{PlanningTask}
+use Rattle.ep_theory.specs.PlanningTask.{PlanningTask}
 use Rattle.ep_search.specs.Within.{ManyWithin, Wide, WideWithin}
 use Rattle.ep_search.proofs.AlikeLemmas.{from_Alike, Alike-sym, Satisfies-Alike}
 use Rattle.ep_guide.specs.declared.frontier.Waiting.{Waiting}

@@ -1,7 +1,7 @@
 -- What a search may answer, for depth d, n states and w worlds. This project's own.
 use Rattle.std.specs.Prelude.{◌≡◌, ℕ, ◌<◌, ◌≤◌, ◌⊎◌, ◌↔◌, List, [], length}
 use Rattle.ep_logic.specs.declared.ids.ActionId.{ActionId}
-use Rattle.ep_problem.specs.PlanningTask.{PlanningTask}
+use Rattle.ep_theory.specs.PlanningTask.{PlanningTask}
 use Rattle.ep_problem.specs.Plans.{Reaches}
 use Rattle.ep_search.specs.Within.{OpenWithin, ManyWithin, Wide, WideWithin}
 use Rattle.ep_guide.specs.Asked.{Rose}

@@ -1,6 +1,6 @@
 -- The limits of a search, and what it is set to.
 use Rattle.std.specs.Prelude.{◌<◌, ◌≤◌, ◌^◌, length}
-use Rattle.ep_problem.specs.PlanningTask.{PlanningTask}
+use Rattle.ep_theory.specs.PlanningTask.{PlanningTask}
 use Rattle.ep_search.specs.declared.answer.Bounds.{Bounds}
 use Rattle.ep_search.specs.declared.setting.Setting.{Setting}
 use Rattle.ep_search.specs.Conjuncts.{AreParts}

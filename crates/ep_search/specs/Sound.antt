@@ -6,7 +6,7 @@ use Rattle.ep_logic.specs.declared.ids.StateId.{StateId}
 use Rattle.ep_search.specs.Alike.{Alike}
 use Rattle.ep_theory.specs.Canonical.{IsCanonical}
 use Rattle.ep_problem.specs.Plans.{Satisfies, step, Reaches}
-use Rattle.ep_problem.specs.PlanningTask.{PlanningTask}
+use Rattle.ep_theory.specs.PlanningTask.{PlanningTask}
 use Rattle.ep_store.specs.declared.entry.Entry.{Entry}
 use Rattle.ep_store.specs.Stored.{Has}
 

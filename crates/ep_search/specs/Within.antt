@@ -4,7 +4,7 @@ use Rattle.ep_logic.specs.declared.ids.ActionId.{ActionId}
 use Rattle.ep_theory.specs.Kripke.{Kripke, IsState}
 use Rattle.ep_theory.specs.Bisimulation.{Bisimilar}
 use Rattle.ep_theory.specs.Canonical.{Contracts}
-use Rattle.ep_problem.specs.PlanningTask.{PlanningTask}
+use Rattle.ep_theory.specs.PlanningTask.{PlanningTask}
 use Rattle.ep_problem.specs.Plans.{after, Reaches}
 
 -- no part of the plan from its start on reaches the goal, nor does the whole plan

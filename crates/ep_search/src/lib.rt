@@ -12,8 +12,6 @@ mod parts;
 mod progress;
 mod run;
 mod setting;
-#[cfg(test)]
-mod tests;
 
 pub use answer::{Answer, Bounds, Mode};
 pub use bounded::search;

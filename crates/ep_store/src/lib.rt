@@ -6,6 +6,3 @@ mod store;
 
 pub use entry::{Added, Entry, StoreError};
 pub use store::Store;
-
-#[cfg(test)]
-mod tests;

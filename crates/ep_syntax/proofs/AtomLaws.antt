@@ -3,21 +3,22 @@ use Rattle.std.proofs.Common.{◌≡◌, ℕ, zero, suc, ◌+◌, ◌≤◌, ◌
 use Rattle.std.specs.List.{list_all}
 use Rattle.std.specs.Prelude.{nat_le}
 use Rattle.std.proofs.lemmas.Bool.{false≢true}
-use Rattle.ep_syntax.specs.declared.terminal.Terminal.{Terminal}
-use Rattle.ep_syntax.specs.declared.terminal.Terminal.TheVariants as the
-use Rattle.ep_syntax.specs.declared.tree.Name.{Name}
-use Rattle.ep_syntax.specs.declared.tree.AtomTree.{AtomTree}
-use Rattle.ep_syntax.specs.declared.tree.GroupTree.{GroupTree}
-use Rattle.ep_syntax.specs.declared.tree.GroupTree.TheVariants as group_tree
-use Rattle.ep_syntax.specs.declared.tree.ParamTree.{ParamTree}
-use Rattle.ep_syntax.specs.Bare.{bare_name, bare_names, bare_atom, bare_group, bare_param}
-use Rattle.ep_syntax.specs.Formed.{Each, OneOrMore, formed_name, formed_param, formed_params, IsFormedName, IsFormedAtom, IsFormedGroup, IsFormedParam}
+use Rattle.ep_tree.specs.declared.terminal.Terminal.{Terminal}
+use Rattle.ep_tree.specs.declared.terminal.Terminal.TheVariants as the
+use Rattle.ep_tree.specs.declared.tree.Name.{Name}
+use Rattle.ep_tree.specs.declared.tree.AtomTree.{AtomTree}
+use Rattle.ep_tree.specs.declared.tree.GroupTree.{GroupTree}
+use Rattle.ep_tree.specs.declared.tree.GroupTree.TheVariants as group_tree
+use Rattle.ep_tree.specs.declared.tree.ParamTree.{ParamTree}
+use Rattle.ep_tree.specs.Bare.{bare_name, bare_names, bare_atom, bare_group, bare_param}
+use Rattle.ep_tree.specs.Formed.{Each, OneOrMore, formed_name, formed_param, formed_params, IsFormedName, IsFormedAtom, IsFormedGroup, IsFormedParam}
 use Rattle.ep_syntax.specs.FormulaReading.{arguments, atom, atom_of, group, members_of, param, param_of, params}
-use Rattle.ep_syntax.specs.Grammar.{Grammar}
-use Rattle.ep_syntax.specs.Marks.{Mark, fixed, held, named, texts}
-use Rattle.ep_syntax.specs.Reading.{Token, Read, Reader, seq, made, is, begins, heads, key, name, listed, any_listed, within, inner_of}
-use Rattle.ep_syntax.specs.Spelling as spell
-use Rattle.ep_syntax.specs.Terminals.{text_of, is_name}
+use Rattle.ep_tree.specs.Grammar.{Grammar}
+use Rattle.ep_tree.specs.Marks.{Mark, fixed, held, named, texts}
+use Rattle.ep_syntax.specs.Reading.{Token, Read, Reader, seq, made, begins, heads, key, name, listed, any_listed, within, inner_of}
+use Rattle.ep_tree.specs.Terminals.{is}
+use Rattle.ep_tree.specs.Spelling as spell
+use Rattle.ep_tree.specs.Terminals.{text_of, is_name}
 use Rattle.ep_syntax.proofs.MarkLists.{Agree}
 use Rattle.ep_syntax.proofs.Laws.{Follow, IsSame, both, Makes, Made}
 use Rattle.ep_syntax.proofs.Readers.{Reads, Part, Any, Lacks, Next, pair, then, made_by, made_all, either, fewer, less, less_part, is-text_of, differs, next_lacks, plain, plain_reads, plain_part, placed, placed_reads, titles, title, title_part, names_one, name_part, some_name}

@@ -3,23 +3,24 @@ use Rattle.std.proofs.Common.{◌≡◌, ℕ, zero, suc, ◌+◌, ◌≤◌, ◌
 use Rattle.std.specs.Prelude.{nat_le, ◌==◌, is_some}
 use Rattle.std.proofs.Math.Dec.{eqb-suc-zero}
 use Rattle.std.proofs.lemmas.Bool.{false≢true, le-leb}
-use Rattle.ep_syntax.specs.declared.terminal.Terminal.{Terminal}
-use Rattle.ep_syntax.specs.declared.terminal.Terminal.TheVariants as the
-use Rattle.ep_syntax.specs.declared.tree.Name.{Name}
-use Rattle.ep_syntax.specs.declared.tree.AtomTree.{AtomTree}
-use Rattle.ep_syntax.specs.declared.tree.GroupTree.{GroupTree}
-use Rattle.ep_syntax.specs.declared.tree.GroupTree.TheVariants as group_tree
-use Rattle.ep_syntax.specs.declared.tree.ParamTree.{ParamTree}
-use Rattle.ep_syntax.specs.declared.tree.FormulaTree.{FormulaTree, out-FormulaTree, roll-FormulaTree, roll-out-FormulaTree}
-use Rattle.ep_syntax.specs.declared.tree.FormulaTree.TheOpen as layer
-use Rattle.ep_syntax.specs.declared.tree.FormulaTree.TheVariants as tree
-use Rattle.ep_syntax.specs.Formed.{Each, OneOrMore, formed_formula, formed_param, formed_params, formed_parts, IsFormedFormula, IsFormedName, IsFormedParam}
+use Rattle.ep_tree.specs.declared.terminal.Terminal.{Terminal}
+use Rattle.ep_tree.specs.declared.terminal.Terminal.TheVariants as the
+use Rattle.ep_tree.specs.declared.tree.Name.{Name}
+use Rattle.ep_tree.specs.declared.tree.AtomTree.{AtomTree}
+use Rattle.ep_tree.specs.declared.tree.GroupTree.{GroupTree}
+use Rattle.ep_tree.specs.declared.tree.GroupTree.TheVariants as group_tree
+use Rattle.ep_tree.specs.declared.tree.ParamTree.{ParamTree}
+use Rattle.ep_tree.specs.declared.tree.FormulaTree.{FormulaTree, out-FormulaTree, roll-FormulaTree, roll-out-FormulaTree}
+use Rattle.ep_tree.specs.declared.tree.FormulaTree.TheOpen as layer
+use Rattle.ep_tree.specs.declared.tree.FormulaTree.TheVariants as tree
+use Rattle.ep_tree.specs.Formed.{Each, OneOrMore, formed_formula, formed_param, formed_params, formed_parts, IsFormedFormula, IsFormedName, IsFormedParam}
 use Rattle.ep_syntax.specs.FormulaReading.{is_equality, follows, deep_name, opened, not_of, knows_of, common_of, forall_of, exists_of, starter_of, starter, by_terminal, by_token, starts_formula, too_deep, formula, equality, inside, atom, group, params}
-use Rattle.ep_syntax.specs.Marks.{Mark, fixed, opening, named, texts, nesting_at}
-use Rattle.ep_syntax.specs.Reading.{Token, Fault, Syntax, TooDeep, Read, Reader, seq, made, is, begins, heads, key, name, name_begins, whole}
-use Rattle.ep_syntax.specs.Spelling.{behind, between, formula_at}
-use Rattle.ep_syntax.specs.Spelling as spell
-use Rattle.ep_syntax.specs.Terminals.{text_of, is_name}
+use Rattle.ep_tree.specs.Marks.{Mark, fixed, opening, named, texts, nesting_at}
+use Rattle.ep_syntax.specs.Reading.{Token, Fault, Syntax, TooDeep, Read, Reader, seq, made, begins, heads, key, name, name_begins, whole}
+use Rattle.ep_tree.specs.Terminals.{is}
+use Rattle.ep_tree.specs.Spelling.{behind, between, formula_at}
+use Rattle.ep_tree.specs.Spelling as spell
+use Rattle.ep_tree.specs.Terminals.{text_of, is_name}
 use Rattle.ep_syntax.proofs.AtomLaws.{NotOpen, atoms_at, atom_reads, groups_one, group_part, params_of, params_part, some_param, each-list_all, list_all-each, and_true}
 use Rattle.ep_syntax.proofs.Laws.{Follow, Outcome, both, both_then, Makes, Made}
 use Rattle.ep_syntax.proofs.Layers.{Layer, formulas_at, first_text, first_mark, rest_marks, rest_texts, marks-out, texts-out, formed-out, formed-roll, lead, lead-first, is_lead, name-first, starter-text, some_formula, no_reads, end_reads}
@@ -32,7 +33,7 @@ use Rattle.ep_syntax.proofs.Readers as reader
 use Rattle.ep_syntax.proofs.Sources.{both_true}
 use Rattle.ep_syntax.proofs.TreeEquations as eq
 use Rattle.ep_syntax.proofs.Whole.{IsEmpty, whole_outcome}
-use Rattle.ep_syntax.specs.Grammar.{formulas}
+use Rattle.ep_tree.specs.Grammar.{formulas}
 
 list_formed : (ps : List ParamTree) → OneOrMore IsFormedParam ps → formed_params ps ≡ true
 list_formed [] f = absurd f

@@ -2,28 +2,29 @@
 use Rattle.std.proofs.Common.{◌≡◌, ℕ, zero, suc, ◌+◌, ◌≤◌, ◌<◌, Bool, true, false, cond, IsTrue, IfSome, List, [], ◌∷◌, ◌++◌, length, map, Option, Some, None, Result, Ok, Err, refl, sym, ap, ◌∙◌, subst, arith, append_assoc}
 use Rattle.std.specs.List.{flat_map}
 use Rattle.std.proofs.lemmas.Bool.{false≢true}
-use Rattle.ep_syntax.specs.declared.terminal.Terminal.{Terminal}
-use Rattle.ep_syntax.specs.declared.terminal.Terminal.TheVariants as the
-use Rattle.ep_syntax.specs.declared.tree.Name.{Name}
-use Rattle.ep_syntax.specs.declared.tree.AtomTree.{AtomTree}
-use Rattle.ep_syntax.specs.declared.tree.PairTree.{PairTree}
-use Rattle.ep_syntax.specs.declared.tree.PairsTree.{PairsTree}
-use Rattle.ep_syntax.specs.declared.tree.PairsTree.TheVariants as pairs_tree
-use Rattle.ep_syntax.specs.declared.tree.GroupTree.TheVariants as group_tree
-use Rattle.ep_syntax.specs.declared.tree.LinkTree.{LinkTree}
-use Rattle.ep_syntax.specs.declared.tree.WorldTree.{WorldTree}
-use Rattle.ep_syntax.specs.declared.tree.SeesTree.{SeesTree}
-use Rattle.ep_syntax.specs.declared.tree.InitTree.{InitTree}
-use Rattle.ep_syntax.specs.declared.tree.InitTree.TheVariants.{Explicit, Lawful}
-use Rattle.ep_syntax.specs.declared.tree.FormulaTree.{FormulaTree}
-use Rattle.ep_syntax.specs.declared.tree.FormulaTree.TheVariants as tree
-use Rattle.ep_syntax.specs.Bare.{bare_pair, bare_pairs, bare_link, bare_world, bare_facts, bare_sees, bare_init}
-use Rattle.ep_syntax.specs.Formed.{Each, OneOrMore, IsFormedName, IsFormedAtom, IsFormedPair, IsFormedPairs, IsFormedLink, IsFormedWorld, IsFormedSees, IsFormedInit}
-use Rattle.ep_syntax.specs.Grammar.{Grammar}
-use Rattle.ep_syntax.specs.Marks.{Mark, fixed, named, texts}
-use Rattle.ep_syntax.specs.Reading.{Token, Read, Reader, seq, made, is, begins, heads, key, name, each, some_each, behind_key, listed, any_listed, within, braced}
-use Rattle.ep_syntax.specs.Spelling as spell
-use Rattle.ep_syntax.specs.Terminals.{text_of, is_name}
+use Rattle.ep_tree.specs.declared.terminal.Terminal.{Terminal}
+use Rattle.ep_tree.specs.declared.terminal.Terminal.TheVariants as the
+use Rattle.ep_tree.specs.declared.tree.Name.{Name}
+use Rattle.ep_tree.specs.declared.tree.AtomTree.{AtomTree}
+use Rattle.ep_tree.specs.declared.tree.PairTree.{PairTree}
+use Rattle.ep_tree.specs.declared.tree.PairsTree.{PairsTree}
+use Rattle.ep_tree.specs.declared.tree.PairsTree.TheVariants as pairs_tree
+use Rattle.ep_tree.specs.declared.tree.GroupTree.TheVariants as group_tree
+use Rattle.ep_tree.specs.declared.tree.LinkTree.{LinkTree}
+use Rattle.ep_tree.specs.declared.tree.WorldTree.{WorldTree}
+use Rattle.ep_tree.specs.declared.tree.SeesTree.{SeesTree}
+use Rattle.ep_tree.specs.declared.tree.InitTree.{InitTree}
+use Rattle.ep_tree.specs.declared.tree.InitTree.TheVariants.{Explicit, Lawful}
+use Rattle.ep_tree.specs.declared.tree.FormulaTree.{FormulaTree}
+use Rattle.ep_tree.specs.declared.tree.FormulaTree.TheVariants as tree
+use Rattle.ep_tree.specs.Bare.{bare_pair, bare_pairs, bare_link, bare_world, bare_facts, bare_sees, bare_init}
+use Rattle.ep_tree.specs.Formed.{Each, OneOrMore, IsFormedName, IsFormedAtom, IsFormedPair, IsFormedPairs, IsFormedLink, IsFormedWorld, IsFormedSees, IsFormedInit}
+use Rattle.ep_tree.specs.Grammar.{Grammar}
+use Rattle.ep_tree.specs.Marks.{Mark, fixed, named, texts}
+use Rattle.ep_syntax.specs.Reading.{Token, Read, Reader, seq, made, begins, heads, key, name, each, some_each, behind_key, listed, any_listed, within, braced}
+use Rattle.ep_tree.specs.Terminals.{is}
+use Rattle.ep_tree.specs.Spelling as spell
+use Rattle.ep_tree.specs.Terminals.{text_of, is_name}
 use Rattle.ep_syntax.proofs.MarkLists.{Agree}
 use Rattle.ep_syntax.proofs.Laws.{Follow, IsSame, both, both_then, Makes, Made}
 use Rattle.ep_syntax.proofs.ListLaws.{Agree-heads, StartsWith, each_of, each_part, some_each_of, some_each_part, behind_of, keyed_part, listed_of, listed_part, any_listed_of, any_listed_part}

@@ -2,10 +2,10 @@
 use Rattle.std.proofs.Common.{◌≡◌, ℕ, Bool, true, false, ◌||◌, List, [], ◌∷◌, ◌++◌, Result, Ok, Err, IfOk, refl, ap, ◌∙◌, append_assoc}
 use Rattle.std.specs.Prelude.{if◌then◌else◌}
 use Rattle.ep_syntax.specs.declared.printer.Last.TheVariants.{Nothing, Semicolon, Other}
-use Rattle.ep_logic.specs.declared.memory.OutOfMemory.{OutOfMemory}
-use Rattle.ep_syntax.specs.declared.tree.TaskTree.{TaskTree}
-use Rattle.ep_syntax.specs.Marks.{Mark, texts}
-use Rattle.ep_syntax.specs.Spelling.{task}
+use Rattle.ep_base.specs.declared.memory.OutOfMemory.{OutOfMemory}
+use Rattle.ep_tree.specs.declared.tree.TaskTree.{TaskTree}
+use Rattle.ep_tree.specs.Marks.{Mark, texts}
+use Rattle.ep_tree.specs.Spelling.{task}
 use Rattle.ep_syntax.specs.Layout.{starts_line, is_semicolon, gap, laid_behind, laid_out, layout_of}
 use Rattle.ep_syntax.specs.Printing.{Printed, gap_behind, last_of, write, written}
 

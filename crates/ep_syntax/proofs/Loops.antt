@@ -3,9 +3,10 @@ use Rattle.std.proofs.Common.{◌≡◌, ℕ, zero, suc, ◌+◌, ◌≤◌, ◌
 use Rattle.std.proofs.lemmas.Bool.{false≢true}
 use Rattle.ep_syntax.specs.declared.error.SyntaxError.{SyntaxError}
 use Rattle.ep_syntax.specs.declared.error.SyntaxError.TheVariants as error
-use Rattle.ep_syntax.specs.declared.terminal.Terminal.{Terminal}
+use Rattle.ep_tree.specs.declared.terminal.Terminal.{Terminal}
 use Rattle.ep_syntax.specs.Gives.{Stops}
-use Rattle.ep_syntax.specs.Reading.{Token, Fault, Syntax, TooDeep, Read, Reader, seq, paired, made, heads, each_by, each, front, second, behind_key, listed, is}
+use Rattle.ep_syntax.specs.Reading.{Token, Fault, Syntax, TooDeep, Read, Reader, seq, paired, made, heads, each_by, each, front, second, behind_key, listed}
+use Rattle.ep_tree.specs.Terminals.{is}
 
 -- the rest of the list, behind the items that were found, is what the reader of lists gives
 pub record Going {A : Type 0} (test : Token → Bool) (item : Reader A) (fuel : ℕ) (found : List A) (n : ℕ) (ts : List Token) (goal : Read (List A)) : Type 0 where

@@ -1,17 +1,9 @@
 -- Lists of marks and of tokens.
 use Rattle.std.proofs.Common.{◌≡◌, ℕ, zero, suc, ◌+◌, ◌-◌, ◌≤◌, ◌<◌, List, [], ◌∷◌, ◌++◌, length, map, Option, Some, None, IfSome, refl, sym, ap, ◌∙◌, subst, arith}
-use Rattle.ep_syntax.specs.Marks.{Mark, texts, PlacedFrom, IsShallow, nesting_at}
+use Rattle.ep_tree.specs.Marks.{Mark, texts, PlacedFrom, IsShallow, nesting_at}
 use Rattle.ep_syntax.specs.Reading.{Token}
 
 -- ---- tokens
-
-pub texts-append : (xs ys : List Mark) → texts (xs ++ ys) ≡ texts xs ++ texts ys
-texts-append [] ys = refl
-texts-append (x ∷ xs) ys = ap (λ ts. x.text ∷ ts) (texts-append xs ys)
-
-pub length-texts : (xs : List Mark) → length (texts xs) ≡ length xs
-length-texts [] = refl
-length-texts (x ∷ xs) = ap suc (length-texts xs)
 
 -- The first n tokens are the same, where the end of a list counts as one more token.
 abbrev pub Agree : ℕ → List Token → List Token → Type 0

@@ -4,19 +4,20 @@ use Rattle.std.specs.Fmt.{decimal}
 use Rattle.std.specs.List.{flat_map}
 use Rattle.std.specs.Str.Parse.{digits_value}
 use Rattle.std.proofs.lemmas.Bool.{false≢true}
-use Rattle.ep_syntax.specs.declared.terminal.Terminal.TheVariants as the
-use Rattle.ep_syntax.specs.declared.tree.Name.{Name}
-use Rattle.ep_syntax.specs.declared.tree.CallTree.{CallTree}
-use Rattle.ep_syntax.specs.declared.tree.PlanTree.{PlanTree}
-use Rattle.ep_syntax.specs.Bare.{bare_call}
-use Rattle.ep_syntax.specs.Formed.{IsFormedCall}
-use Rattle.ep_syntax.specs.Grammar.{Grammar, plans, IsDeep}
-use Rattle.ep_syntax.specs.Marks.{Mark, fixed, named, nesting_at, IsShallow}
+use Rattle.ep_tree.specs.declared.terminal.Terminal.TheVariants as the
+use Rattle.ep_tree.specs.declared.tree.Name.{Name}
+use Rattle.ep_tree.specs.declared.tree.CallTree.{CallTree}
+use Rattle.ep_tree.specs.declared.tree.PlanTree.{PlanTree}
+use Rattle.ep_tree.specs.Bare.{bare_call}
+use Rattle.ep_tree.specs.Formed.{IsFormedCall}
+use Rattle.ep_tree.specs.Grammar.{Grammar, plans, IsDeep}
+use Rattle.ep_tree.specs.Marks.{Mark, fixed, named, nesting_at, IsShallow}
 use Rattle.ep_syntax.specs.PlanReading.{is_count, count_at, count, call, heading, plan}
-use Rattle.ep_syntax.specs.Reading.{Token, is, heads, each, whole}
-use Rattle.ep_syntax.specs.Spelling as spell
-use Rattle.ep_syntax.specs.Spelling.{behind}
-use Rattle.ep_syntax.specs.Terminals.{is_name}
+use Rattle.ep_syntax.specs.Reading.{Token, heads, each, whole}
+use Rattle.ep_tree.specs.Terminals.{is}
+use Rattle.ep_tree.specs.Spelling as spell
+use Rattle.ep_tree.specs.Spelling.{behind}
+use Rattle.ep_tree.specs.Terminals.{is_name}
 use Rattle.ep_syntax.proofs.AtomLaws.{NotOpen, arguments_part}
 use Rattle.ep_syntax.proofs.CountLaws.{count_written, written_count, written_value}
 use Rattle.ep_syntax.proofs.Laws.{Follow, IsRefused, Outcome, both}

@@ -2,16 +2,16 @@
 use Rattle.std.proofs.Common.{◌≡◌, ℕ, suc, ◌≤◌, List, [], ◌∷◌, ◌++◌, length, map, drop, sym, ap, ◌∙◌, subst, append_assoc}
 use Rattle.std.proofs.Math.ListN.{drop_of_length-le}
 use Rattle.std.specs.List.{IsFirstAndRest}
-use Rattle.ep_syntax.specs.declared.terminal.Terminal.{Terminal}
-use Rattle.ep_syntax.specs.declared.terminal.Terminal.TheVariants as the
-use Rattle.ep_syntax.specs.declared.tree.GroupTree.{GroupTree}
-use Rattle.ep_syntax.specs.declared.tree.ParamTree.{ParamTree}
-use Rattle.ep_syntax.specs.declared.tree.FormulaTree.{FormulaTree}
-use Rattle.ep_syntax.specs.declared.tree.FormulaTree.TheVariants as tree
-use Rattle.ep_syntax.specs.Marks.{Mark, fixed, opening}
-use Rattle.ep_syntax.specs.Terminals.{text_of}
+use Rattle.ep_tree.specs.declared.terminal.Terminal.{Terminal}
+use Rattle.ep_tree.specs.declared.terminal.Terminal.TheVariants as the
+use Rattle.ep_tree.specs.declared.tree.GroupTree.{GroupTree}
+use Rattle.ep_tree.specs.declared.tree.ParamTree.{ParamTree}
+use Rattle.ep_tree.specs.declared.tree.FormulaTree.{FormulaTree}
+use Rattle.ep_tree.specs.declared.tree.FormulaTree.TheVariants as tree
+use Rattle.ep_tree.specs.Marks.{Mark, fixed, opening}
+use Rattle.ep_tree.specs.Terminals.{text_of}
 use Rattle.ep_syntax.specs.Printing.{Printed, write, written}
-use Rattle.ep_syntax.specs.Spelling.{between, behind, group, params, formula_at}
+use Rattle.ep_tree.specs.Spelling.{between, behind, group, params, formula_at}
 use Rattle.ep_syntax.proofs.TreeEquations.{formula_at-Common, formula_at-Forall, formula_at-Exists, formula_at-Paren, formula_at-And, formula_at-Or}
 use Rattle.ep_syntax.proofs.PrintedLemmas.{written-append, written-headed, behind-next}
 

@@ -3,9 +3,9 @@ use Rattle.std.proofs.Common.{◌≡◌, ℕ, suc, ◌+◌, List, [], ◌++◌, 
 use Rattle.std.proofs.lemmas.List.{append-nil, take-append-drop}
 use Rattle.ep_syntax.specs.declared.error.SyntaxError.TheVariants as error
 use Rattle.ep_syntax.specs.Gives.{Says}
-use Rattle.ep_syntax.specs.Grammar.{Grammar, spelling_of, IsOnly}
-use Rattle.ep_syntax.specs.Grammar as grammar
-use Rattle.ep_syntax.specs.Marks.{IsShallow}
+use Rattle.ep_tree.specs.Grammar.{Grammar, spelling_of, IsOnly}
+use Rattle.ep_tree.specs.Grammar as grammar
+use Rattle.ep_tree.specs.Marks.{IsShallow}
 use Rattle.ep_syntax.specs.Reading.{Token, Syntax, TooDeep, Read, Reader, whole}
 use Rattle.ep_syntax.proofs.Laws.{Outcome, failed}
 use Rattle.ep_syntax.proofs.MarkLists.{Agree, Agree-same, shallow_opens, shallow_to}

@@ -3,15 +3,16 @@ use Rattle.std.proofs.Common.{◌≡◌, ℕ, zero, suc, ◌+◌, ◌≤◌, ◌
 use Rattle.std.specs.Cmp.Lexicographic.{same_text}
 use Rattle.std.specs.Str.{bytes_eq}
 use Rattle.std.proofs.lemmas.Bool.{false≢true}
-use Rattle.ep_syntax.specs.declared.terminal.Terminal.{Terminal}
-use Rattle.ep_syntax.specs.declared.terminal.Terminal.TheVariants as the
-use Rattle.ep_syntax.specs.declared.tree.Name.{Name}
-use Rattle.ep_syntax.specs.Bare.{bare_name}
-use Rattle.ep_syntax.specs.Formed.{IsFormedName}
-use Rattle.ep_syntax.specs.Grammar.{Grammar}
-use Rattle.ep_syntax.specs.Marks.{Mark, fixed, held, opening, named, texts}
-use Rattle.ep_syntax.specs.Reading.{Token, Fault, Syntax, TooDeep, Read, Reader, seq, made, is, begins, heads, key, name, name_begins}
-use Rattle.ep_syntax.specs.Terminals.{text_of, is_name}
+use Rattle.ep_tree.specs.declared.terminal.Terminal.{Terminal}
+use Rattle.ep_tree.specs.declared.terminal.Terminal.TheVariants as the
+use Rattle.ep_tree.specs.declared.tree.Name.{Name}
+use Rattle.ep_tree.specs.Bare.{bare_name}
+use Rattle.ep_tree.specs.Formed.{IsFormedName}
+use Rattle.ep_tree.specs.Grammar.{Grammar}
+use Rattle.ep_tree.specs.Marks.{Mark, fixed, held, opening, named, texts}
+use Rattle.ep_syntax.specs.Reading.{Token, Fault, Syntax, TooDeep, Read, Reader, seq, made, begins, heads, key, name, name_begins}
+use Rattle.ep_tree.specs.Terminals.{is}
+use Rattle.ep_tree.specs.Terminals.{text_of, is_name}
 use Rattle.ep_syntax.proofs.MarkLists.{Agree, unnumbered, IsShallowTo, shallow_opens}
 use Rattle.ep_syntax.proofs.Laws.{Follow, IsRead, IsRefused, IsTooDeep, IsSame, Outcome, both, seq_outcome, Makes, Made, made_outcome, got, failed, narrow, far_refused, far_deep}
 

@@ -13,9 +13,9 @@ use Rattle.ep_lex.specs.declared.token.PieceKind.TheVariants as piece
 use Rattle.ep_lex.specs.Pieces.{is_piece, is_letter, is_digit, is_mark, is_mark_byte, is_word_byte}
 use Rattle.ep_lex.specs.Tokens.{spelling, spellings, AreTokens}
 use Rattle.ep_lex.proofs.TokenLaws.{IsSpelled, token-spelled}
-use Rattle.ep_syntax.specs.Terminals.{is_name}
+use Rattle.ep_tree.specs.Terminals.{is_name}
 use Rattle.ep_syntax.specs.Gives.{is_sound, all_sound}
-use Rattle.ep_syntax.specs.declared.terminal.Terminal.{Terminal}
+use Rattle.ep_tree.specs.declared.terminal.Terminal.{Terminal}
 use Rattle.ep_syntax.specs.Gives.{Place}
 use Rattle.ep_syntax.specs.Reading.{Token, Fault, Syntax, Read, first_token, heads, begins, key, name, name_begins}
 

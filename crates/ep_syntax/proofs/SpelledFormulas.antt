@@ -6,21 +6,21 @@ use Rattle.std.proofs.lemmas.Bool.{false≢true}
 use Rattle.ep_lex.specs.declared.token.TokenKind.TheVariants as kind
 use Rattle.ep_lex.specs.declared.token.PieceKind.TheVariants as piece
 use Rattle.ep_lex.specs.Pieces.{is_letter, is_digit, is_word_byte, is_piece}
-use Rattle.ep_syntax.specs.declared.terminal.Terminal.{Terminal}
-use Rattle.ep_syntax.specs.declared.terminal.Terminal.TheVariants as the
-use Rattle.ep_syntax.specs.declared.tree.Name.{Name}
-use Rattle.ep_syntax.specs.declared.tree.AtomTree.{AtomTree}
-use Rattle.ep_syntax.specs.declared.tree.GroupTree.{GroupTree}
-use Rattle.ep_syntax.specs.declared.tree.GroupTree.TheVariants as group_tree
-use Rattle.ep_syntax.specs.declared.tree.ParamTree.{ParamTree}
-use Rattle.ep_syntax.specs.declared.tree.FormulaTree.{FormulaTree, roll-FormulaTree}
-use Rattle.ep_syntax.specs.declared.tree.FormulaTree.TheOpen.{FormulaTree-F}
-use Rattle.ep_syntax.specs.declared.tree.FormulaTree.TheOpen as layer
-use Rattle.ep_syntax.specs.declared.tree.FormulaTree.TheFolds.{map-FormulaTree, ind-FormulaTree, fold-roll-FormulaTree}
-use Rattle.ep_syntax.specs.Formed.{Each, OneOrMore, formed_name, formed_atom, formed_group, formed_param, formed_params, formed_layer, formed_formula, is_true}
-use Rattle.ep_syntax.specs.Marks.{Mark, fixed, named, texts}
-use Rattle.ep_syntax.specs.Spelling.{behind, between, braced, names, arguments, atom, group, param, params, parts_at, production, formula_at}
-use Rattle.ep_syntax.specs.Terminals.{text_of, is_name, is_reserved}
+use Rattle.ep_tree.specs.declared.terminal.Terminal.{Terminal}
+use Rattle.ep_tree.specs.declared.terminal.Terminal.TheVariants as the
+use Rattle.ep_tree.specs.declared.tree.Name.{Name}
+use Rattle.ep_tree.specs.declared.tree.AtomTree.{AtomTree}
+use Rattle.ep_tree.specs.declared.tree.GroupTree.{GroupTree}
+use Rattle.ep_tree.specs.declared.tree.GroupTree.TheVariants as group_tree
+use Rattle.ep_tree.specs.declared.tree.ParamTree.{ParamTree}
+use Rattle.ep_tree.specs.declared.tree.FormulaTree.{FormulaTree, roll-FormulaTree}
+use Rattle.ep_tree.specs.declared.tree.FormulaTree.TheOpen.{FormulaTree-F}
+use Rattle.ep_tree.specs.declared.tree.FormulaTree.TheOpen as layer
+use Rattle.ep_tree.specs.declared.tree.FormulaTree.TheFolds.{map-FormulaTree, ind-FormulaTree, fold-roll-FormulaTree}
+use Rattle.ep_tree.specs.Formed.{Each, OneOrMore, formed_name, formed_atom, formed_group, formed_param, formed_params, formed_layer, formed_formula, is_true}
+use Rattle.ep_tree.specs.Marks.{Mark, fixed, named, texts}
+use Rattle.ep_tree.specs.Spelling.{behind, between, braced, names, arguments, atom, group, param, params, parts_at, production, formula_at}
+use Rattle.ep_tree.specs.Terminals.{text_of, is_name, is_reserved}
 use Rattle.ep_syntax.proofs.AtomLaws.{each-list_all}
 use Rattle.ep_syntax.proofs.LayoutTokens.{kind_of, IsSpelling, AreSpellings}
 use Rattle.ep_syntax.proofs.Sources.{both_true}

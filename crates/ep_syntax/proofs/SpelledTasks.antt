@@ -1,33 +1,33 @@
 -- Each token of a well-formed task is the spelling of one.
 use Rattle.std.proofs.Common.{◌≡◌, Bool, true, false, List, [], ◌∷◌, ◌++◌, map, Option, Some, None, refl, IfSome}
 use Rattle.std.specs.List.{flat_map}
-use Rattle.ep_syntax.specs.declared.terminal.Terminal.{Terminal}
-use Rattle.ep_syntax.specs.declared.terminal.Terminal.TheVariants as the
-use Rattle.ep_syntax.specs.declared.tree.Name.{Name}
-use Rattle.ep_syntax.specs.declared.tree.TaskTree.{TaskTree}
-use Rattle.ep_syntax.specs.declared.tree.TypeTree.{TypeTree}
-use Rattle.ep_syntax.specs.declared.tree.ObjectTree.{ObjectTree}
-use Rattle.ep_syntax.specs.declared.tree.FluentTree.{FluentTree}
-use Rattle.ep_syntax.specs.declared.tree.AtomTree.{AtomTree}
-use Rattle.ep_syntax.specs.declared.tree.GroupTree.{GroupTree}
-use Rattle.ep_syntax.specs.declared.tree.PairTree.{PairTree}
-use Rattle.ep_syntax.specs.declared.tree.PairsTree.{PairsTree}
-use Rattle.ep_syntax.specs.declared.tree.PairsTree.TheVariants as pairs_tree
-use Rattle.ep_syntax.specs.declared.tree.LinkTree.{LinkTree}
-use Rattle.ep_syntax.specs.declared.tree.WorldTree.{WorldTree}
-use Rattle.ep_syntax.specs.declared.tree.SeesTree.{SeesTree}
-use Rattle.ep_syntax.specs.declared.tree.InitTree.{InitTree}
-use Rattle.ep_syntax.specs.declared.tree.InitTree.TheVariants.{Explicit, Lawful}
-use Rattle.ep_syntax.specs.declared.tree.ParamTree.{ParamTree}
-use Rattle.ep_syntax.specs.declared.tree.SetTree.{SetTree}
-use Rattle.ep_syntax.specs.declared.tree.EventTree.{EventTree}
-use Rattle.ep_syntax.specs.declared.tree.BodyTree.{BodyTree}
-use Rattle.ep_syntax.specs.declared.tree.BodyTree.TheVariants.{Announce, Private, Sense, Assign, Events}
-use Rattle.ep_syntax.specs.declared.tree.SchemaTree.{SchemaTree}
-use Rattle.ep_syntax.specs.declared.tree.FormulaTree.{FormulaTree}
-use Rattle.ep_syntax.specs.Formed.{Each, OneOrMore, IsFormedName, IsFormedAtom, IsFormedGroup, IsFormedParam, IsFormedFormula, IsFormedType, IsFormedObject, IsFormedFluent, IsFormedPair, IsFormedPairs, IsFormedLink, IsFormedWorld, IsFormedSees, IsFormedInit, IsFormedSet, IsFormedEvent, IsFormedBody, IsFormedSignature, IsFormedSchema, IsFormedTask}
-use Rattle.ep_syntax.specs.Marks.{Mark, fixed, named, texts}
-use Rattle.ep_syntax.specs.Spelling as spell
+use Rattle.ep_tree.specs.declared.terminal.Terminal.{Terminal}
+use Rattle.ep_tree.specs.declared.terminal.Terminal.TheVariants as the
+use Rattle.ep_tree.specs.declared.tree.Name.{Name}
+use Rattle.ep_tree.specs.declared.tree.TaskTree.{TaskTree}
+use Rattle.ep_tree.specs.declared.tree.TypeTree.{TypeTree}
+use Rattle.ep_tree.specs.declared.tree.ObjectTree.{ObjectTree}
+use Rattle.ep_tree.specs.declared.tree.FluentTree.{FluentTree}
+use Rattle.ep_tree.specs.declared.tree.AtomTree.{AtomTree}
+use Rattle.ep_tree.specs.declared.tree.GroupTree.{GroupTree}
+use Rattle.ep_tree.specs.declared.tree.PairTree.{PairTree}
+use Rattle.ep_tree.specs.declared.tree.PairsTree.{PairsTree}
+use Rattle.ep_tree.specs.declared.tree.PairsTree.TheVariants as pairs_tree
+use Rattle.ep_tree.specs.declared.tree.LinkTree.{LinkTree}
+use Rattle.ep_tree.specs.declared.tree.WorldTree.{WorldTree}
+use Rattle.ep_tree.specs.declared.tree.SeesTree.{SeesTree}
+use Rattle.ep_tree.specs.declared.tree.InitTree.{InitTree}
+use Rattle.ep_tree.specs.declared.tree.InitTree.TheVariants.{Explicit, Lawful}
+use Rattle.ep_tree.specs.declared.tree.ParamTree.{ParamTree}
+use Rattle.ep_tree.specs.declared.tree.SetTree.{SetTree}
+use Rattle.ep_tree.specs.declared.tree.EventTree.{EventTree}
+use Rattle.ep_tree.specs.declared.tree.BodyTree.{BodyTree}
+use Rattle.ep_tree.specs.declared.tree.BodyTree.TheVariants.{Announce, Private, Sense, Assign, Events}
+use Rattle.ep_tree.specs.declared.tree.SchemaTree.{SchemaTree}
+use Rattle.ep_tree.specs.declared.tree.FormulaTree.{FormulaTree}
+use Rattle.ep_tree.specs.Formed.{Each, OneOrMore, IsFormedName, IsFormedAtom, IsFormedGroup, IsFormedParam, IsFormedFormula, IsFormedType, IsFormedObject, IsFormedFluent, IsFormedPair, IsFormedPairs, IsFormedLink, IsFormedWorld, IsFormedSees, IsFormedInit, IsFormedSet, IsFormedEvent, IsFormedBody, IsFormedSignature, IsFormedSchema, IsFormedTask}
+use Rattle.ep_tree.specs.Marks.{Mark, fixed, named, texts}
+use Rattle.ep_tree.specs.Spelling as spell
 use Rattle.ep_syntax.proofs.LayoutTokens.{AreSpellings}
 use Rattle.ep_syntax.proofs.SpelledFormulas.{AreSpelled, spelled-texts, spelled-append, spelled_name, spelled-flat_map, spelled-between, each-some, spelled-braced, spelled-names, spelled-arguments, spelled-atom, spelled-group, spelled-param, spelled-params, spelled-formula}
 

@@ -1,19 +1,19 @@
 -- One equation for each production of the formulas.
 use Rattle.std.proofs.Common.{◌≡◌, ℕ, suc, Bool, true, ◌&&◌, List, [], ◌∷◌, ◌++◌, map, Some, refl, sym, ap, ◌∙◌}
-use Rattle.ep_syntax.specs.declared.terminal.Terminal.TheVariants as the
-use Rattle.ep_syntax.specs.declared.tree.Name.{Name}
-use Rattle.ep_syntax.specs.declared.tree.AtomTree.{AtomTree}
-use Rattle.ep_syntax.specs.declared.tree.GroupTree.{GroupTree}
-use Rattle.ep_syntax.specs.declared.tree.ParamTree.{ParamTree}
-use Rattle.ep_syntax.specs.declared.tree.FormulaTree.{FormulaTree}
-use Rattle.ep_syntax.specs.declared.tree.FormulaTree.TheOpen as layer
-use Rattle.ep_syntax.specs.declared.tree.FormulaTree.TheVariants as tree
-use Rattle.ep_syntax.specs.declared.tree.FormulaTree.TheFolds.{fold-roll-FormulaTree}
-use Rattle.ep_syntax.specs.Bare.{bare_name, bare_atom, bare_group, bare_param, bare_layer, bare_formula}
-use Rattle.ep_syntax.specs.Formed.{formed_name, formed_atom, formed_group, formed_params, formed_parts, formed_layer, formed_formula}
-use Rattle.ep_syntax.specs.Marks.{Mark, fixed, opening, named}
-use Rattle.ep_syntax.specs.Spelling.{between, atom, parts_at, production, formula_at}
-use Rattle.ep_syntax.specs.Spelling as spell
+use Rattle.ep_tree.specs.declared.terminal.Terminal.TheVariants as the
+use Rattle.ep_tree.specs.declared.tree.Name.{Name}
+use Rattle.ep_tree.specs.declared.tree.AtomTree.{AtomTree}
+use Rattle.ep_tree.specs.declared.tree.GroupTree.{GroupTree}
+use Rattle.ep_tree.specs.declared.tree.ParamTree.{ParamTree}
+use Rattle.ep_tree.specs.declared.tree.FormulaTree.{FormulaTree}
+use Rattle.ep_tree.specs.declared.tree.FormulaTree.TheOpen as layer
+use Rattle.ep_tree.specs.declared.tree.FormulaTree.TheVariants as tree
+use Rattle.ep_tree.specs.declared.tree.FormulaTree.TheFolds.{fold-roll-FormulaTree}
+use Rattle.ep_tree.specs.Bare.{bare_name, bare_atom, bare_group, bare_param, bare_layer, bare_formula}
+use Rattle.ep_tree.specs.Formed.{formed_name, formed_atom, formed_group, formed_params, formed_parts, formed_layer, formed_formula}
+use Rattle.ep_tree.specs.Marks.{Mark, fixed, opening, named}
+use Rattle.ep_tree.specs.Spelling.{between, atom, parts_at, production, formula_at}
+use Rattle.ep_tree.specs.Spelling as spell
 
 parts_at-map : (k : ℕ) (parts : List FormulaTree) → parts_at k (map formula_at parts) ≡ map (λ p. formula_at p k) parts
 parts_at-map k [] = refl

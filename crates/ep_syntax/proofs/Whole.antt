@@ -7,12 +7,13 @@ use Rattle.ep_syntax.specs.declared.error.SyntaxError.{SyntaxError}
 use Rattle.ep_syntax.specs.declared.error.SyntaxError.TheVariants as error
 use Rattle.ep_syntax.specs.Answers.{RefusesWith}
 use Rattle.ep_syntax.specs.Gives.{Stops, Says}
-use Rattle.ep_syntax.specs.Grammar.{Grammar, spelling_of, IsOnly, IsViable, IsViableCount, IsDeep, SyntaxAt, DeepAt}
-use Rattle.ep_syntax.specs.Grammar as grammar
-use Rattle.ep_syntax.specs.Marks.{texts}
+use Rattle.ep_tree.specs.Grammar.{Grammar, spelling_of, IsOnly, IsViable, IsViableCount, IsDeep, SyntaxAt, DeepAt}
+use Rattle.ep_tree.specs.Grammar as grammar
+use Rattle.ep_tree.specs.Marks.{texts}
 use Rattle.ep_syntax.specs.Reading.{Token, Fault, Syntax, TooDeep, Read, Reader, seq, paired, made, end, whole, first_of}
 use Rattle.ep_syntax.proofs.Laws.{Follow, IsRead, IsRefused, IsTooDeep, Outcome, both, Makes, Made, got, failed, deep}
-use Rattle.ep_syntax.proofs.MarkLists.{Agree, Agree-less, Agree-same, length-texts, IsShallowTo, Opens, Opens-within, shallow_opens, shallow_to}
+use Rattle.ep_syntax.proofs.MarkLists.{Agree, Agree-less, Agree-same, IsShallowTo, Opens, Opens-within, shallow_opens, shallow_to}
+use Rattle.ep_tree.proofs.MarkTexts.{length-texts}
 use Rattle.ep_syntax.proofs.Readers.{Reads, Part, pair, made_all}
 
 abbrev pub IsEmpty : Follow

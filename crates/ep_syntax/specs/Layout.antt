@@ -4,11 +4,11 @@ use Rattle.std.specs.List.{list_any}
 use Rattle.std.specs.Str.{bytes_eq}
 use Rattle.ep_lex.specs.declared.token.Token.{Token}
 use Rattle.ep_lex.specs.Tokens.{AreTokens, spellings}
-use Rattle.ep_syntax.specs.declared.terminal.Terminal.{Terminal}
-use Rattle.ep_syntax.specs.declared.terminal.Terminal.TheVariants as the
-use Rattle.ep_syntax.specs.declared.tree.TaskTree.{TaskTree}
-use Rattle.ep_syntax.specs.Terminals.{text_of}
-use Rattle.ep_syntax.specs.Grammar.{tasks, spelling_of, Reads}
+use Rattle.ep_tree.specs.declared.terminal.Terminal.{Terminal}
+use Rattle.ep_tree.specs.declared.terminal.Terminal.TheVariants as the
+use Rattle.ep_tree.specs.declared.tree.TaskTree.{TaskTree}
+use Rattle.ep_tree.specs.Terminals.{text_of}
+use Rattle.ep_tree.specs.Grammar.{tasks, spelling_of, Reads}
 
 -- the words that begin a line
 abbrev pub line_starts : List Terminal

@@ -1,11 +1,5 @@
 pub mod Layout
 pub mod Printing
-pub mod Terminals
-pub mod Marks
-pub mod Spelling
-pub mod Formed
-pub mod Bare
-pub mod Grammar
 pub mod Reading
 pub mod FormulaReading
 pub mod TaskReading

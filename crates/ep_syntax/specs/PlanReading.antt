@@ -4,13 +4,13 @@ use Rattle.std.specs.Str.Parse.{digits_value}
 use Rattle.ep_lex.specs.declared.token.TokenKind.TheVariants as kind
 use Rattle.ep_lex.specs.declared.token.PieceKind.TheVariants as piece
 use Rattle.ep_lex.specs.Pieces.{is_piece}
-use Rattle.ep_syntax.specs.declared.terminal.Terminal.TheVariants as the
-use Rattle.ep_syntax.specs.declared.tree.Name.{Name}
-use Rattle.ep_syntax.specs.declared.tree.CallTree.{CallTree}
-use Rattle.ep_syntax.specs.declared.tree.PlanTree.{PlanTree}
+use Rattle.ep_tree.specs.declared.terminal.Terminal.TheVariants as the
+use Rattle.ep_tree.specs.declared.tree.Name.{Name}
+use Rattle.ep_tree.specs.declared.tree.CallTree.{CallTree}
+use Rattle.ep_tree.specs.declared.tree.PlanTree.{PlanTree}
 use Rattle.ep_syntax.specs.FormulaReading.{arguments}
 use Rattle.ep_syntax.specs.Reading.{Token, Syntax, Read, Reader, seq, made, heads, key, name, each, whole}
-use Rattle.ep_syntax.specs.Terminals.{is_name}
+use Rattle.ep_tree.specs.Terminals.{is_name}
 
 -- ---- counts
 

@@ -2,7 +2,7 @@
 use Rattle.std.specs.Prelude.{ℕ, if◌then◌else◌, List, [], ◌∷◌, ◌++◌}
 use Rattle.ep_syntax.specs.declared.printer.Last.{Last}
 use Rattle.ep_syntax.specs.declared.printer.Last.TheVariants.{Nothing, Semicolon, Other}
-use Rattle.ep_syntax.specs.Marks.{Mark}
+use Rattle.ep_tree.specs.Marks.{Mark}
 use Rattle.ep_syntax.specs.Layout.{starts_line, is_semicolon}
 
 -- the bytes so far, and the last token

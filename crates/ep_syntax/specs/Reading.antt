@@ -1,10 +1,9 @@
 -- Reading as a function on lists of tokens: the value, the place behind it and the tokens from there, or the first fault.
 use Rattle.std.specs.Prelude.{◌≡◌, ℕ, zero, suc, ◌+◌, Bool, true, false, if◌then◌else◌, List, [], ◌∷◌, length, drop, Option, Some, None, Result, Ok, Err}
-use Rattle.std.specs.Str.{bytes_eq}
-use Rattle.ep_syntax.specs.declared.terminal.Terminal.{Terminal}
-use Rattle.ep_syntax.specs.declared.terminal.Terminal.TheVariants as the
-use Rattle.ep_syntax.specs.declared.tree.Name.{Name}
-use Rattle.ep_syntax.specs.Terminals.{text_of, is_name}
+use Rattle.ep_tree.specs.declared.terminal.Terminal.{Terminal}
+use Rattle.ep_tree.specs.declared.terminal.Terminal.TheVariants as the
+use Rattle.ep_tree.specs.declared.tree.Name.{Name}
+use Rattle.ep_tree.specs.Terminals.{text_of, is, is_name}
 
 -- a token, by its bytes
 abbrev pub Token : Type 0
@@ -34,9 +33,6 @@ made f (Ok x) = Ok (f x.0, x.1, x.2)
 made f (Err e) = Err e
 
 -- ---- tokens
-
-abbrev pub is : Terminal → Token → Bool
-is t token = bytes_eq token (text_of t)
 
 -- the first token passes the test
 abbrev pub heads : (Token → Bool) → List Token → Bool

@@ -9,13 +9,13 @@ use crate::error::SyntaxError;
 use crate::initial::{designated, outer_formula, statement};
 use crate::parse::{Parse, braced_each, each_of, some_of};
 use crate::reader::Reader;
-use crate::terminal::Terminal;
-use crate::tree::{AtomTree, BodyTree, EventTree, FormulaTree, ParamTree, SchemaTree, SetTree};
-use ep_logic::List;
+use ep_tree::Terminal;
+use ep_tree::{AtomTree, BodyTree, EventTree, FormulaTree, ParamTree, SchemaTree, SetTree};
+use ep_base::List;
 use std::alloc::Global;
 
 impl Parse for SetTree {
-    ghost use Rattle.ep_syntax.specs.Terminals.{is_name};
+    ghost use Rattle.ep_tree.specs.Terminals.{is_name};
     ghost use Rattle.ep_syntax.specs.TaskReading.{set};
 
     ghost starts = { is_name };
@@ -37,9 +37,9 @@ impl Parse for SetTree {
 }
 
 impl Parse for EventTree {
-    ghost use Rattle.ep_syntax.specs.Reading.{is};
+    ghost use Rattle.ep_tree.specs.Terminals.{is};
     ghost use Rattle.ep_syntax.specs.TaskReading.{event};
-    ghost use Rattle.ep_syntax.specs.declared.terminal.Terminal.TheVariants as the;
+    ghost use Rattle.ep_tree.specs.declared.terminal.Terminal.TheVariants as the;
 
     ghost starts = { is the.Event };
 
@@ -154,9 +154,9 @@ fn signature(reader: &mut Reader, alloc: Global) -> Result<(List<ParamTree>, boo
 }
 
 impl Parse for SchemaTree {
-    ghost use Rattle.ep_syntax.specs.Reading.{is};
+    ghost use Rattle.ep_tree.specs.Terminals.{is};
     ghost use Rattle.ep_syntax.specs.TaskReading.{schema};
-    ghost use Rattle.ep_syntax.specs.declared.terminal.Terminal.TheVariants as the;
+    ghost use Rattle.ep_tree.specs.declared.terminal.Terminal.TheVariants as the;
 
     ghost starts = { is the.Action };
 

@@ -4,19 +4,19 @@ ghost use Rattle.std.specs.Prelude.{◌≡◌};
 ghost use Rattle.ep_syntax.specs.FormulaReading as reading;
 ghost use Rattle.ep_syntax.specs.Gives.{Gives};
 ghost use Rattle.ep_syntax.specs.Reading.{name};
-ghost use Rattle.ep_syntax.specs.Terminals.{is_name};
+ghost use Rattle.ep_tree.specs.Terminals.{is_name};
 
 use crate::error::SyntaxError;
 use crate::parse::{Parse, one_or_more, zero_or_more};
 use crate::reader::Reader;
-use crate::terminal::Terminal;
-use crate::tree::{AtomTree, GroupTree, Name, ParamTree};
-use ep_logic::List;
+use ep_tree::Terminal;
+use ep_tree::{AtomTree, GroupTree, Name, ParamTree};
+use ep_base::List;
 use std::alloc::Global;
 
 impl Parse for Name {
     ghost use Rattle.ep_syntax.specs.Reading.{name};
-    ghost use Rattle.ep_syntax.specs.Terminals.{is_name};
+    ghost use Rattle.ep_tree.specs.Terminals.{is_name};
 
     ghost starts = { is_name };
 
@@ -48,7 +48,7 @@ pub fn arguments(reader: &mut Reader, alloc: Global) -> Result<List<Name>, Synta
 
 impl Parse for AtomTree {
     ghost use Rattle.ep_syntax.specs.FormulaReading.{atom};
-    ghost use Rattle.ep_syntax.specs.Terminals.{is_name};
+    ghost use Rattle.ep_tree.specs.Terminals.{is_name};
 
     ghost starts = { is_name };
 
@@ -83,7 +83,7 @@ pub fn group(reader: &mut Reader, alloc: Global) -> Result<GroupTree, SyntaxErro
 
 impl Parse for ParamTree {
     ghost use Rattle.ep_syntax.specs.FormulaReading.{param};
-    ghost use Rattle.ep_syntax.specs.Terminals.{is_name};
+    ghost use Rattle.ep_tree.specs.Terminals.{is_name};
 
     ghost starts = { is_name };
 

@@ -8,13 +8,13 @@ use crate::atom::arguments;
 use crate::error::SyntaxError;
 use crate::parse::{Parse, braced_each, one_or_more};
 use crate::reader::Reader;
-use crate::terminal::Terminal;
-use crate::tree::{FluentTree, ObjectTree, TypeTree};
-use ep_logic::List;
+use ep_tree::Terminal;
+use ep_tree::{FluentTree, ObjectTree, TypeTree};
+use ep_base::List;
 use std::alloc::Global;
 
 impl Parse for TypeTree {
-    ghost use Rattle.ep_syntax.specs.Terminals.{is_name};
+    ghost use Rattle.ep_tree.specs.Terminals.{is_name};
     ghost use Rattle.ep_syntax.specs.TaskReading.{type_entry};
 
     ghost starts = { is_name };
@@ -50,7 +50,7 @@ pub fn types(reader: &mut Reader, alloc: Global) -> Result<Option<List<TypeTree>
 }
 
 impl Parse for ObjectTree {
-    ghost use Rattle.ep_syntax.specs.Terminals.{is_name};
+    ghost use Rattle.ep_tree.specs.Terminals.{is_name};
     ghost use Rattle.ep_syntax.specs.TaskReading.{object_entry};
 
     ghost starts = { is_name };
@@ -80,7 +80,7 @@ pub fn objects(reader: &mut Reader, alloc: Global) -> Result<List<ObjectTree>, S
 }
 
 impl Parse for FluentTree {
-    ghost use Rattle.ep_syntax.specs.Terminals.{is_name};
+    ghost use Rattle.ep_tree.specs.Terminals.{is_name};
     ghost use Rattle.ep_syntax.specs.TaskReading.{fluent_entry};
 
     ghost starts = { is_name };

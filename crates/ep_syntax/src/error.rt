@@ -1,6 +1,6 @@
 //! Why a list of tokens is not read.
 
-use ep_logic::OutOfMemory;
+use ep_base::OutOfMemory;
 use std::alloc::AllocError;
 
 /// `token` is the place of a token, or the number of tokens where the end is at fault.

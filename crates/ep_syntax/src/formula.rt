@@ -4,15 +4,15 @@ ghost use Rattle.std.specs.Prelude.{◌≡◌, ◌≤◌, ◌∷◌, ◌==◌, d
 ghost use Rattle.ep_syntax.specs.FormulaReading as reading;
 ghost use Rattle.ep_syntax.specs.Gives.{Gives, Stops};
 ghost use Rattle.ep_syntax.specs.Reading.{heads, key, name, seq, behind_key, made};
-ghost use Rattle.ep_syntax.specs.declared.terminal.Terminal.TheVariants as the;
+ghost use Rattle.ep_tree.specs.declared.terminal.Terminal.TheVariants as the;
 
 use crate::atom::{group, params};
 use crate::error::SyntaxError;
 use crate::parse::Parse;
 use crate::reader::Reader;
-use crate::terminal::Terminal;
-use crate::tree::{AtomTree, FormulaTree};
-use ep_logic::{Boxed, List};
+use ep_tree::Terminal;
+use ep_tree::{AtomTree, FormulaTree};
+use ep_base::{Boxed, List};
 use std::alloc::Global;
 
 const STARTERS: [Terminal; 8] = [

@@ -4,18 +4,18 @@ ghost use Rattle.std.specs.Prelude.{◌≡◌};
 ghost use Rattle.ep_syntax.specs.Gives.{Gives};
 ghost use Rattle.ep_syntax.specs.TaskReading as reading;
 ghost use Rattle.ep_syntax.specs.Reading.{each, within};
-ghost use Rattle.ep_syntax.specs.declared.terminal.Terminal.TheVariants as the;
+ghost use Rattle.ep_tree.specs.declared.terminal.Terminal.TheVariants as the;
 
 use crate::atom::group;
 use crate::error::SyntaxError;
 use crate::formula::formula;
 use crate::parse::{Parse, braced_list, each_of, one_or_more, some_of};
 use crate::reader::Reader;
-use crate::terminal::Terminal;
-use crate::tree::{
+use ep_tree::Terminal;
+use ep_tree::{
     AtomTree, FormulaTree, InitTree, LinkTree, Name, PairTree, PairsTree, SeesTree, WorldTree,
 };
-use ep_logic::List;
+use ep_base::List;
 use std::alloc::Global;
 
 const MOST_NESTING: u32 = 64;
@@ -42,7 +42,7 @@ pub fn statement(
 }
 
 impl Parse for PairTree {
-    ghost use Rattle.ep_syntax.specs.Terminals.{is_name};
+    ghost use Rattle.ep_tree.specs.Terminals.{is_name};
     ghost use Rattle.ep_syntax.specs.TaskReading.{pair};
 
     ghost starts = { is_name };
@@ -79,9 +79,9 @@ fn pairs(reader: &mut Reader, alloc: Global) -> Result<PairsTree, SyntaxError>
 }
 
 impl Parse for LinkTree {
-    ghost use Rattle.ep_syntax.specs.Reading.{is};
+    ghost use Rattle.ep_tree.specs.Terminals.{is};
     ghost use Rattle.ep_syntax.specs.TaskReading.{link};
-    ghost use Rattle.ep_syntax.specs.declared.terminal.Terminal.TheVariants as the;
+    ghost use Rattle.ep_tree.specs.declared.terminal.Terminal.TheVariants as the;
 
     ghost starts = { is the.Links };
 
@@ -114,9 +114,9 @@ pub fn designated(reader: &mut Reader, alloc: Global) -> Result<List<Name>, Synt
 }
 
 impl Parse for WorldTree {
-    ghost use Rattle.ep_syntax.specs.Reading.{is};
+    ghost use Rattle.ep_tree.specs.Terminals.{is};
     ghost use Rattle.ep_syntax.specs.TaskReading.{world};
-    ghost use Rattle.ep_syntax.specs.declared.terminal.Terminal.TheVariants as the;
+    ghost use Rattle.ep_tree.specs.declared.terminal.Terminal.TheVariants as the;
 
     ghost starts = { is the.World };
 
@@ -163,9 +163,9 @@ fn facts(reader: &mut Reader, alloc: Global) -> Result<Option<List<AtomTree>>, S
 }
 
 impl Parse for SeesTree {
-    ghost use Rattle.ep_syntax.specs.Reading.{is};
+    ghost use Rattle.ep_tree.specs.Terminals.{is};
     ghost use Rattle.ep_syntax.specs.TaskReading.{sees};
-    ghost use Rattle.ep_syntax.specs.declared.terminal.Terminal.TheVariants as the;
+    ghost use Rattle.ep_tree.specs.declared.terminal.Terminal.TheVariants as the;
 
     ghost starts = { is the.Sees };
 

@@ -3,13 +3,13 @@
 ghost use Rattle.std.specs.Prelude.{◌≡◌, List};
 ghost use Rattle.ep_lex.specs.declared.token.Token.{Token};
 ghost use Rattle.ep_lex.specs.Tokens.{AreTokens, spellings};
-ghost use Rattle.ep_syntax.specs.declared.tree.TaskTree.{TaskTree};
-ghost use Rattle.ep_syntax.specs.Bare.{bare_task};
-ghost use Rattle.ep_syntax.specs.Formed.{IsFormedTask};
-ghost use Rattle.ep_syntax.specs.Grammar.{tasks, spelling_of};
+ghost use Rattle.ep_tree.specs.declared.tree.TaskTree.{TaskTree};
+ghost use Rattle.ep_tree.specs.Bare.{bare_task};
+ghost use Rattle.ep_tree.specs.Formed.{IsFormedTask};
+ghost use Rattle.ep_tree.specs.Grammar.{tasks, spelling_of};
 ghost use Rattle.ep_syntax.specs.Layout.{layout_of, ReadsLayout};
-ghost use Rattle.ep_syntax.specs.Marks.{IsShallow};
-ghost use Rattle.ep_syntax.specs.Spelling.{task};
+ghost use Rattle.ep_tree.specs.Marks.{IsShallow};
+ghost use Rattle.ep_tree.specs.Spelling.{task};
 
 /// The layout of a well-formed task has tokens, which are those of the task.
 pub fn layout_has_the_tokens()

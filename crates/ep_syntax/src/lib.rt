@@ -1,4 +1,4 @@
-//! Trees of the task language, their reader and their layout.
+//! The readers and the layout of the task language. Its trees are those of `ep_tree`.
 #![tactic(auto)]
 
 mod action;
@@ -14,16 +14,13 @@ mod print;
 mod printer;
 mod read;
 mod reader;
-pub mod terminal;
-pub mod tree;
 
 pub use error::SyntaxError;
 pub use plan::read_plan_lines;
 pub use print::print_task;
 pub use read::{read_formula, read_task};
-pub use terminal::Terminal;
-pub use tree::{
+pub use ep_tree::{
     AtomTree, BodyTree, CallTree, EventTree, FluentTree, FormulaTree, GroupTree, InitTree,
     LinkTree, Name, ObjectTree, PairTree, PairsTree, ParamTree, PlanTree, SchemaTree, SeesTree,
-    SetTree, TaskTree, TypeTree, WorldTree,
+    SetTree, TaskTree, Terminal, TypeTree, WorldTree,
 };

@@ -3,12 +3,12 @@
 ghost use Rattle.std.specs.Prelude.{◌≡◌, ◌∷◌};
 ghost use Rattle.ep_syntax.specs.Gives.{Gives};
 ghost use Rattle.ep_syntax.specs.Reading.{each, some_each, listed, any_listed, behind_key, braced};
-ghost use Rattle.ep_syntax.specs.declared.terminal.Terminal.TheVariants as the;
+ghost use Rattle.ep_tree.specs.declared.terminal.Terminal.TheVariants as the;
 
 use crate::error::SyntaxError;
 use crate::reader::Reader;
-use crate::terminal::Terminal;
-use ep_logic::List;
+use ep_tree::Terminal;
+use ep_base::List;
 use std::alloc::Global;
 
 /// A value that is read from its first token on.

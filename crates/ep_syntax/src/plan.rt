@@ -5,21 +5,21 @@ ghost use Rattle.ep_lex.specs.Tokens.{AreTokens, spellings};
 ghost use Rattle.ep_syntax.specs.Answers.{RefusesWith};
 ghost use Rattle.ep_syntax.specs.PlanReading as reading;
 ghost use Rattle.ep_syntax.specs.Gives.{Gives, Says};
-ghost use Rattle.ep_syntax.specs.Grammar.{Reads, IsOnly, SyntaxAt, DeepAt, plans};
+ghost use Rattle.ep_tree.specs.Grammar.{Reads, IsOnly, SyntaxAt, DeepAt, plans};
 ghost use Rattle.ep_syntax.specs.declared.error.SyntaxError.TheVariants.{Syntax, TooDeep, OutOfMemory};
-ghost use Rattle.ep_syntax.specs.declared.tree.PlanTree.{PlanTree};
+ghost use Rattle.ep_tree.specs.declared.tree.PlanTree.{PlanTree};
 
 use crate::atom::arguments;
 use crate::error::SyntaxError;
 use crate::parse::{Parse, each_of};
 use crate::reader::Reader;
-use crate::terminal::Terminal;
-use crate::tree::{CallTree, PlanTree};
+use ep_tree::Terminal;
+use ep_tree::{CallTree, PlanTree};
 use ep_lex::TokenList;
 use std::alloc::Global;
 
 impl Parse for CallTree {
-    ghost use Rattle.ep_syntax.specs.Terminals.{is_name};
+    ghost use Rattle.ep_tree.specs.Terminals.{is_name};
     ghost use Rattle.ep_syntax.specs.PlanReading.{call};
 
     ghost starts = { is_name };
@@ -85,6 +85,3 @@ pub fn read_plan_lines(
 {
     whole_plan(alloc, bytes, tokens)
 }
-
-#[cfg(test)]
-mod tests;

@@ -3,8 +3,8 @@
 ghost use Rattle.std.specs.Prelude.{◌≡◌, map, OnOk};
 ghost use Rattle.std.specs.List.{flat_map};
 ghost use Rattle.ep_syntax.specs.Printing.{written};
-ghost use Rattle.ep_syntax.specs.Spelling as spell;
-ghost use Rattle.ep_syntax.specs.declared.terminal.Terminal.TheVariants as the;
+ghost use Rattle.ep_tree.specs.Spelling as spell;
+ghost use Rattle.ep_tree.specs.declared.terminal.Terminal.TheVariants as the;
 
 mod atom;
 mod formula;
@@ -13,14 +13,14 @@ mod schema;
 mod task;
 
 use crate::printer::Printer;
-use crate::terminal::Terminal;
-use ep_logic::OutOfMemory;
+use ep_tree::Terminal;
+use ep_base::OutOfMemory;
 pub use task::print_task;
 
 /// A value whose tokens can be written.
 pub trait Print {
     ghost use Rattle.std.specs.Prelude.{◌≡◌, List, OnOk};
-    ghost use Rattle.ep_syntax.specs.Marks.{Mark};
+    ghost use Rattle.ep_tree.specs.Marks.{Mark};
     ghost use Rattle.ep_syntax.specs.Printing.{written};
 
     ghost marks: { Self → List Mark };
@@ -91,6 +91,3 @@ pub fn print_listed<T: Print>(items: &[T], printer: &mut Printer) -> Result<(), 
     print_between(items, Terminal::Comma, printer)?;
     printer.fixed(Terminal::CloseBrace)
 }
-
-#[cfg(test)]
-mod tests;

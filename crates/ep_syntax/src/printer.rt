@@ -4,11 +4,11 @@ ghost use Rattle.std.specs.Prelude.{◌≡◌, ◌<◌, [], ◌∷◌, ◌++◌,
 ghost use Rattle.ep_syntax.specs.Layout.{starts_line};
 ghost use Rattle.ep_syntax.specs.Printing as printing;
 ghost use Rattle.ep_syntax.specs.Printing.{gap_behind, write};
-ghost use Rattle.ep_syntax.specs.Terminals.{text_of};
+ghost use Rattle.ep_tree.specs.Terminals.{text_of};
 
-use crate::terminal::Terminal;
-use crate::tree::Name;
-use ep_logic::{OutOfMemory, Text};
+use ep_tree::Terminal;
+use ep_tree::Name;
+use ep_base::{OutOfMemory, Text};
 use std::alloc::{AllocError, Global};
 use std::marker::Model;
 

@@ -6,18 +6,18 @@ ghost use Rattle.ep_syntax.specs.Answers.{RefusesWith};
 ghost use Rattle.ep_syntax.specs.FormulaReading.{whole_formula as formula_reading};
 ghost use Rattle.ep_syntax.specs.TaskReading as reading;
 ghost use Rattle.ep_syntax.specs.Gives.{Gives, Says};
-ghost use Rattle.ep_syntax.specs.Grammar.{Reads, IsOnly, SyntaxAt, DeepAt, formulas, tasks};
+ghost use Rattle.ep_tree.specs.Grammar.{Reads, IsOnly, SyntaxAt, DeepAt, formulas, tasks};
 ghost use Rattle.ep_syntax.specs.declared.error.SyntaxError.TheVariants.{Syntax, TooDeep, OutOfMemory};
-ghost use Rattle.ep_syntax.specs.declared.tree.FormulaTree.{FormulaTree};
-ghost use Rattle.ep_syntax.specs.declared.tree.TaskTree.{TaskTree};
+ghost use Rattle.ep_tree.specs.declared.tree.FormulaTree.{FormulaTree};
+ghost use Rattle.ep_tree.specs.declared.tree.TaskTree.{TaskTree};
 
 use crate::declarations::{fluents, objects, types};
 use crate::error::SyntaxError;
 use crate::initial::{init, outer_formula, statement};
 use crate::parse::each_of;
 use crate::reader::Reader;
-use crate::terminal::Terminal;
-use crate::tree::{FormulaTree, TaskTree};
+use ep_tree::Terminal;
+use ep_tree::{FormulaTree, TaskTree};
 use ep_lex::TokenList;
 use std::alloc::Global;
 

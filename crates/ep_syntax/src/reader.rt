@@ -10,13 +10,13 @@ ghost use Rattle.ep_lex.specs.declared.token.TokenKind.TheVariants as kinds;
 ghost use Rattle.ep_syntax.specs.Gives.{Gives, place_at, all_sound};
 ghost use Rattle.ep_syntax.specs.PlanReading as plan_reading;
 ghost use Rattle.ep_syntax.specs.Reading as reading;
-ghost use Rattle.ep_syntax.specs.Terminals as terminals;
+ghost use Rattle.ep_tree.specs.Terminals as terminals;
 
 use crate::error::SyntaxError;
-use crate::terminal::{Terminal, is_reserved_word};
-use crate::tree::Name;
+use ep_tree::{Terminal, is_reserved_word};
+use ep_tree::Name;
 use ep_lex::{Token, TokenKind, TokenList};
-use ep_logic::{OutOfMemory, Text};
+use ep_base::{OutOfMemory, Text};
 use std::alloc::Global;
 use std::marker::Model;
 

@@ -3,7 +3,7 @@
 ghost use Rattle.std.specs.Prelude.{◌≡◌, IfOk};
 ghost use Rattle.ep_trial.specs.TrialText as spec;
 
-use ep_logic::OutOfMemory;
+use ep_base::OutOfMemory;
 use std::alloc::Global;
 
 #[tactic(auto, using(crate::proofs::ListLemmas::counting_more))]

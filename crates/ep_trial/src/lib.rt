@@ -6,6 +6,3 @@ mod text_builder;
 mod trial;
 
 pub use trial::trial_text;
-
-#[cfg(test)]
-mod tests;

@@ -4,7 +4,7 @@ ghost use Rattle.std.specs.Prelude.{◌≡◌, [], ◌++◌, IsTrue, OnOk};
 ghost use Rattle.std.specs.Fmt.{decimal};
 ghost use Rattle.ep_trial.specs.Ascii.{all_ascii};
 
-use ep_logic::{OutOfMemory, Text};
+use ep_base::{OutOfMemory, Text};
 use std::alloc::Global;
 use std::marker::Model;
 

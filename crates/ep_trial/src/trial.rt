@@ -7,7 +7,7 @@ ghost use Rattle.ep_trial.specs.TrialText.{line, listed};
 
 use crate::children::{everyone, others};
 use crate::text_builder::TextBuilder;
-use ep_logic::{OutOfMemory, Text};
+use ep_base::{OutOfMemory, Text};
 use std::alloc::Global;
 
 fn push_child(text: &mut TextBuilder, child: u32) -> Result<(), OutOfMemory>

@@ -11,6 +11,3 @@ mod truths;
 pub use fit::fits;
 pub use labels::label;
 pub use truths::{holds, holds_all};
-
-#[cfg(test)]
-mod tests;

@@ -6,7 +6,7 @@ use Rattle.ep_types.specs.Faults.{first_fault, or_else, told}
 use Rattle.ep_types.specs.Uses.{argument_uses}
 use Rattle.ep_types.specs.declared.fault.TypeFault.{TypeFault}
 use Rattle.ep_types.specs.declared.fault.TypeError.{TypeError}
-use Rattle.ep_syntax.specs.declared.tree.Name.{Name}
+use Rattle.ep_tree.specs.declared.tree.Name.{Name}
 
 pub arguments_left : (xs : List Name) (kinds : List Text) (i : ℕ) (x : Name) (kind : Text) (s : Scope) → i < length xs → i < length kinds → x ≡ get_or xs i x → kind ≡ get_or kinds i kind
     → argument_uses (drop i xs) (drop i kinds) s ≡ both (at x.token (Argument x.text kind s)) (argument_uses (drop (i + 1) xs) (drop (i + 1) kinds) s)

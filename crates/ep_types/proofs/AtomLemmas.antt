@@ -16,7 +16,7 @@ use Rattle.ep_types.specs.declared.fault.TypeError.TheVariants.{At, OutOfMemory}
 use Rattle.ep_types.specs.Uses.{fact_uses}
 use Rattle.ep_types.specs.Tasks.{facts_uses}
 use Rattle.ep_types.specs.Atoms.{atom_texts, is_atom, has_atom, with_atom, key_texts, IsSetOf}
-use Rattle.ep_syntax.specs.declared.tree.AtomTree.{AtomTree}
+use Rattle.ep_tree.specs.declared.tree.AtomTree.{AtomTree}
 
 -- whether two keys are one
 abbrev pub is_key : Vec (Vec ℕ) → Vec (Vec ℕ) → Bool

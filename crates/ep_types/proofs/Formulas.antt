@@ -7,11 +7,11 @@ use Rattle.ep_types.specs.Faults.{IsJudged}
 use Rattle.ep_types.specs.declared.fault.TypeError.{TypeError}
 use Rattle.ep_types.specs.declared.scope.Declared.{Declared}
 use Rattle.ep_types.specs.declared.scope.Frame.{Frame}
-use Rattle.ep_syntax.specs.declared.tree.ParamTree.{ParamTree}
-use Rattle.ep_syntax.specs.declared.tree.FormulaTree.{FormulaTree}
-use Rattle.ep_syntax.specs.declared.tree.FormulaTree.TheOpen as layer
-use Rattle.ep_syntax.specs.declared.tree.FormulaTree.TheVariants as tree
-use Rattle.ep_syntax.specs.declared.tree.FormulaTree.TheFolds.{fold-roll-FormulaTree}
+use Rattle.ep_tree.specs.declared.tree.ParamTree.{ParamTree}
+use Rattle.ep_tree.specs.declared.tree.FormulaTree.{FormulaTree}
+use Rattle.ep_tree.specs.declared.tree.FormulaTree.TheOpen as layer
+use Rattle.ep_tree.specs.declared.tree.FormulaTree.TheVariants as tree
+use Rattle.ep_tree.specs.declared.tree.FormulaTree.TheFolds.{fold-roll-FormulaTree}
 
 each_part : (s : Scope) (fs : List FormulaTree) → each (λ part. part s) (map formula_uses fs) ≡ formulas_uses fs s
 each_part s [] = refl

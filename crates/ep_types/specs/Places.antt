@@ -3,7 +3,7 @@ use Rattle.std.specs.Prelude.{ℕ, Bool, true, false, List, [], ◌∷◌, ◌++
 use Rattle.ep_types.specs.Names.{Text, Typings, declared}
 use Rattle.ep_types.specs.declared.scope.Declared.{Declared}
 use Rattle.ep_types.specs.declared.scope.Frame.{Frame}
-use Rattle.ep_syntax.specs.declared.tree.ParamTree.{ParamTree}
+use Rattle.ep_tree.specs.declared.tree.ParamTree.{ParamTree}
 
 -- the names that are declared, the parameters in force, and whether knowledge is allowed
 pub record Scope : Type 0 where

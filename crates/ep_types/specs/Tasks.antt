@@ -6,27 +6,27 @@ use Rattle.ep_types.specs.Atoms.{texts, atom_texts}
 use Rattle.ep_types.specs.Places.{Scope, closed, objective, with_params, NewName, ParamType, UsedName, Uses, nothing, both, at, each}
 use Rattle.ep_types.specs.Uses.{param_uses, atom_uses, fact_uses, group_uses, formula_uses}
 use Rattle.ep_types.specs.declared.scope.Declared.{Declared}
-use Rattle.ep_syntax.specs.declared.tree.Name.{Name}
-use Rattle.ep_syntax.specs.declared.tree.TypeTree.{TypeTree}
-use Rattle.ep_syntax.specs.declared.tree.ObjectTree.{ObjectTree}
-use Rattle.ep_syntax.specs.declared.tree.FluentTree.{FluentTree}
-use Rattle.ep_syntax.specs.declared.tree.AtomTree.{AtomTree}
-use Rattle.ep_syntax.specs.declared.tree.PairTree.{PairTree}
-use Rattle.ep_syntax.specs.declared.tree.PairsTree.{PairsTree}
-use Rattle.ep_syntax.specs.declared.tree.PairsTree.TheVariants as pairs
-use Rattle.ep_syntax.specs.declared.tree.LinkTree.{LinkTree}
-use Rattle.ep_syntax.specs.declared.tree.WorldTree.{WorldTree}
-use Rattle.ep_syntax.specs.declared.tree.SeesTree.{SeesTree}
-use Rattle.ep_syntax.specs.declared.tree.FormulaTree.{FormulaTree}
-use Rattle.ep_syntax.specs.declared.tree.GroupTree.{GroupTree}
-use Rattle.ep_syntax.specs.declared.tree.InitTree.{InitTree}
-use Rattle.ep_syntax.specs.declared.tree.InitTree.TheVariants.{Explicit, Lawful}
-use Rattle.ep_syntax.specs.declared.tree.SetTree.{SetTree}
-use Rattle.ep_syntax.specs.declared.tree.EventTree.{EventTree}
-use Rattle.ep_syntax.specs.declared.tree.BodyTree.{BodyTree}
-use Rattle.ep_syntax.specs.declared.tree.BodyTree.TheVariants.{Announce, Private, Sense, Assign, Events}
-use Rattle.ep_syntax.specs.declared.tree.SchemaTree.{SchemaTree}
-use Rattle.ep_syntax.specs.declared.tree.TaskTree.{TaskTree}
+use Rattle.ep_tree.specs.declared.tree.Name.{Name}
+use Rattle.ep_tree.specs.declared.tree.TypeTree.{TypeTree}
+use Rattle.ep_tree.specs.declared.tree.ObjectTree.{ObjectTree}
+use Rattle.ep_tree.specs.declared.tree.FluentTree.{FluentTree}
+use Rattle.ep_tree.specs.declared.tree.AtomTree.{AtomTree}
+use Rattle.ep_tree.specs.declared.tree.PairTree.{PairTree}
+use Rattle.ep_tree.specs.declared.tree.PairsTree.{PairsTree}
+use Rattle.ep_tree.specs.declared.tree.PairsTree.TheVariants as pairs
+use Rattle.ep_tree.specs.declared.tree.LinkTree.{LinkTree}
+use Rattle.ep_tree.specs.declared.tree.WorldTree.{WorldTree}
+use Rattle.ep_tree.specs.declared.tree.SeesTree.{SeesTree}
+use Rattle.ep_tree.specs.declared.tree.FormulaTree.{FormulaTree}
+use Rattle.ep_tree.specs.declared.tree.GroupTree.{GroupTree}
+use Rattle.ep_tree.specs.declared.tree.InitTree.{InitTree}
+use Rattle.ep_tree.specs.declared.tree.InitTree.TheVariants.{Explicit, Lawful}
+use Rattle.ep_tree.specs.declared.tree.SetTree.{SetTree}
+use Rattle.ep_tree.specs.declared.tree.EventTree.{EventTree}
+use Rattle.ep_tree.specs.declared.tree.BodyTree.{BodyTree}
+use Rattle.ep_tree.specs.declared.tree.BodyTree.TheVariants.{Announce, Private, Sense, Assign, Events}
+use Rattle.ep_tree.specs.declared.tree.SchemaTree.{SchemaTree}
+use Rattle.ep_tree.specs.declared.tree.TaskTree.{TaskTree}
 
 -- ---- types, objects and fluents
 

@@ -3,14 +3,14 @@ use Rattle.std.specs.Prelude.{ℕ, ◌+◌, List, [], ◌∷◌, length, unwrap_
 use Rattle.ep_types.specs.Names.{Text, declared, names_of}
 use Rattle.ep_types.specs.Atoms.{texts}
 use Rattle.ep_types.specs.Places.{Scope, with_param, with_params, UsedName, NewParam, UsedObject, UsedFluent, Fact, Argument, Agent, Group, Knowledge, Uses, nothing, both, at, each}
-use Rattle.ep_syntax.specs.declared.tree.Name.{Name}
-use Rattle.ep_syntax.specs.declared.tree.AtomTree.{AtomTree}
-use Rattle.ep_syntax.specs.declared.tree.GroupTree.{GroupTree}
-use Rattle.ep_syntax.specs.declared.tree.GroupTree.TheVariants.{All, Members}
-use Rattle.ep_syntax.specs.declared.tree.ParamTree.{ParamTree}
-use Rattle.ep_syntax.specs.declared.tree.FormulaTree.{FormulaTree}
-use Rattle.ep_syntax.specs.declared.tree.FormulaTree.TheOpen.{FormulaTree-F}
-use Rattle.ep_syntax.specs.declared.tree.FormulaTree.TheFolds.{fold-FormulaTree}
+use Rattle.ep_tree.specs.declared.tree.Name.{Name}
+use Rattle.ep_tree.specs.declared.tree.AtomTree.{AtomTree}
+use Rattle.ep_tree.specs.declared.tree.GroupTree.{GroupTree}
+use Rattle.ep_tree.specs.declared.tree.GroupTree.TheVariants.{All, Members}
+use Rattle.ep_tree.specs.declared.tree.ParamTree.{ParamTree}
+use Rattle.ep_tree.specs.declared.tree.FormulaTree.{FormulaTree}
+use Rattle.ep_tree.specs.declared.tree.FormulaTree.TheOpen.{FormulaTree-F}
+use Rattle.ep_tree.specs.declared.tree.FormulaTree.TheFolds.{fold-FormulaTree}
 
 -- a list of parameters, from this number on
 abbrev pub param_uses : ℕ → List ParamTree → Scope → Uses

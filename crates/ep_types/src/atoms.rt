@@ -3,7 +3,7 @@
 ghost use Rattle.std.specs.Prelude.{◌≡◌, [], IfOk, OnOk};
 ghost use Rattle.ep_types.specs.Atoms.{atom_texts, has_atom, key_texts, with_atom};
 
-use ep_syntax::AtomTree;
+use ep_tree::AtomTree;
 use indexmap::IndexSet;
 use std::alloc::{AllocError, Global};
 use std::marker::Model;

@@ -1,4 +1,4 @@
-use ep_logic::OutOfMemory as NoMemory;
+use ep_base::OutOfMemory as NoMemory;
 use std::alloc::AllocError;
 
 /// What is wrong at a token.

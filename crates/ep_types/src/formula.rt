@@ -9,7 +9,7 @@ use crate::fault::TypeError;
 use crate::judge::{agent, atom, group, knowledge, new_param, used_object, used_type};
 use crate::scope::{Declared, Frame};
 use crate::table::copy_text;
-use ep_syntax::{FormulaTree, GroupTree, Name, ParamTree};
+use ep_tree::{FormulaTree, GroupTree, Name, ParamTree};
 use std::alloc::Global;
 
 /// Checks a list of parameters, and brings them into force.

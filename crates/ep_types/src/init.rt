@@ -15,8 +15,8 @@ use crate::judge::{fact, group, new_name};
 use crate::links::{atoms, designated};
 use crate::scope::{Declared, Frame};
 use crate::table::Table;
-use ep_logic::List;
-use ep_syntax::{AtomTree, FormulaTree, InitTree, LinkTree, Name, SeesTree, WorldTree};
+use ep_base::List;
+use ep_tree::{AtomTree, FormulaTree, InitTree, LinkTree, Name, SeesTree, WorldTree};
 use std::alloc::{AllocError, Global};
 
 /// Checks worlds, and adds them to those before.

@@ -11,8 +11,8 @@ use crate::fault::{TypeError, TypeFault};
 use crate::scope::{Declared, Frame, type_of};
 use crate::table::Table;
 use crate::types::Types;
-use ep_logic::List;
-use ep_syntax::{AtomTree, GroupTree, Name};
+use ep_base::List;
+use ep_tree::{AtomTree, GroupTree, Name};
 use std::alloc::Global;
 
 /// A fault at a name.

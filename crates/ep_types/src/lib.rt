@@ -17,6 +17,3 @@ mod types;
 
 pub use fault::{TypeError, TypeFault};
 pub use typed::{Typed, check, check_formula};
-
-#[cfg(test)]
-mod tests;

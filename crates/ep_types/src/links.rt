@@ -10,7 +10,7 @@ use crate::fault::TypeError;
 use crate::judge::{atom, group, used_name};
 use crate::scope::{Declared, Frame};
 use crate::table::Table;
-use ep_syntax::{AtomTree, LinkTree, Name, PairTree, PairsTree};
+use ep_tree::{AtomTree, LinkTree, Name, PairTree, PairsTree};
 
 pub fn atoms(names: &Declared, frame: &Frame, list: &[AtomTree]) -> Result<(), TypeError>
     ensures { result ≡ told (first_fault (spec.atoms_uses list.now (scope names.now frame.now))) }

@@ -12,8 +12,8 @@ use crate::judge::{atom, group, new_name};
 use crate::links::designated;
 use crate::scope::{Declared, Frame};
 use crate::table::Table;
-use ep_logic::List;
-use ep_syntax::{BodyTree, EventTree, FormulaTree, GroupTree, LinkTree, Name, SchemaTree, SetTree};
+use ep_base::List;
+use ep_tree::{BodyTree, EventTree, FormulaTree, GroupTree, LinkTree, Name, SchemaTree, SetTree};
 use std::alloc::Global;
 
 /// Checks assignments. The parameters in force stay.

@@ -6,7 +6,7 @@ ghost use Rattle.ep_types.specs.Places as spec;
 
 use crate::table::Table;
 use crate::types::Types;
-use ep_logic::List;
+use ep_base::List;
 use std::alloc::Global;
 
 /// The names that are declared: types with their parents, objects with their types, and fluents with the types of their parameters.

@@ -15,8 +15,8 @@ use crate::schema::schemas;
 use crate::scope::{Declared, Frame};
 use crate::table::{Table, copy_text};
 use crate::types::Types;
-use ep_logic::List;
-use ep_syntax::{FluentTree, FormulaTree, Name, ObjectTree, TaskTree, TypeTree};
+use ep_base::List;
+use ep_tree::{FluentTree, FormulaTree, Name, ObjectTree, TaskTree, TypeTree};
 use std::alloc::{AllocError, Global};
 
 /// The names that are declared from the start.

@@ -10,8 +10,8 @@ ghost use Rattle.ep_types.specs.Uses.{formula_uses};
 use crate::fault::TypeError;
 use crate::scope::Declared;
 use crate::task::{closed_formula, task};
-use ep_logic::List;
-use ep_syntax::{FormulaTree, TaskTree};
+use ep_base::List;
+use ep_tree::{FormulaTree, TaskTree};
 use std::alloc::Global;
 use std::marker::Model;
 
@@ -23,8 +23,8 @@ pub struct Typed {
 }
 
 impl Model for Typed {
-    ghost use Rattle.ep_syntax.specs.declared.tree.TaskTree.{TaskTree};
-    ghost use Rattle.ep_syntax.specs.contracts.tree.TaskTree as trees;
+    ghost use Rattle.ep_tree.specs.declared.tree.TaskTree.{TaskTree};
+    ghost use Rattle.ep_tree.specs.contracts.tree.TaskTree as trees;
 
     ghost Value = { TaskTree };
 

@@ -5,7 +5,7 @@ ghost use Rattle.ep_types.specs.Links.{AreLinked, IsAbove, depth_at, far_at, nam
 ghost use Rattle.ep_types.specs.Names.{is_among, is_below, names_of, Reaches};
 
 use crate::table::Table;
-use ep_logic::List;
+use ep_base::List;
 use std::alloc::{AllocError, Global};
 use std::marker::Model;
 

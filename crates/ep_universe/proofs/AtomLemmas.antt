@@ -4,8 +4,8 @@ use Rattle.std.proofs.lemmas.List.{take_more, take_all, length-append, length-ma
 use Rattle.std.proofs.lemmas.List.Elements.{All-nil, All-cons}
 use Rattle.ep_binding.specs.Bindings.{bindings}
 use Rattle.ep_theory.specs.Numbers.{numbers_where}
-use Rattle.ep_syntax.specs.declared.tree.FluentTree.{FluentTree}
-use Rattle.ep_syntax.specs.declared.tree.TaskTree.{TaskTree}
+use Rattle.ep_tree.specs.declared.tree.FluentTree.{FluentTree}
+use Rattle.ep_tree.specs.declared.tree.TaskTree.{TaskTree}
 use Rattle.ep_types.specs.Atoms.{texts}
 use Rattle.ep_types.specs.Names.{Text}
 use Rattle.ep_types.specs.Tasks.{declarations}

@@ -5,8 +5,8 @@ use Rattle.std.proofs.lemmas.Bool.{cases_lt}
 use Rattle.std.proofs.lemmas.List.Sums.{sum_by_push, sum-map}
 use Rattle.std.proofs.Math.Nat.{mul-le-mul}
 use Rattle.ep_binding.specs.Bindings.{binding_count}
-use Rattle.ep_syntax.specs.declared.tree.FormulaTree.{FormulaTree}
-use Rattle.ep_syntax.specs.declared.tree.ParamTree.{ParamTree}
+use Rattle.ep_tree.specs.declared.tree.FormulaTree.{FormulaTree}
+use Rattle.ep_tree.specs.declared.tree.ParamTree.{ParamTree}
 use Rattle.ep_types.specs.declared.scope.Declared.{Declared}
 use Rattle.ep_universe.specs.Objects.{objects_of, candidates}
 use Rattle.ep_universe.specs.Counts.{ground_count, repeated, capped}

@@ -10,13 +10,13 @@ use Rattle.ep_logic.specs.declared.formula.Node.{Node}
 use Rattle.ep_logic.specs.declared.formula.Node.TheVariants as node
 use Rattle.ep_logic.specs.Nodes.{node_count, depth_of, largest}
 use Rattle.ep_binding.specs.Bindings.{bindings, binding_count}
-use Rattle.ep_syntax.specs.declared.tree.Name.{Name}
-use Rattle.ep_syntax.specs.declared.tree.GroupTree.{GroupTree}
-use Rattle.ep_syntax.specs.declared.tree.ParamTree.{ParamTree}
-use Rattle.ep_syntax.specs.declared.tree.FormulaTree.{FormulaTree, roll-FormulaTree}
-use Rattle.ep_syntax.specs.declared.tree.FormulaTree.TheOpen.{FormulaTree-F}
-use Rattle.ep_syntax.specs.declared.tree.FormulaTree.TheVariants as tree
-use Rattle.ep_syntax.specs.declared.tree.FormulaTree.TheFolds.{map-FormulaTree, ind-FormulaTree}
+use Rattle.ep_tree.specs.declared.tree.Name.{Name}
+use Rattle.ep_tree.specs.declared.tree.GroupTree.{GroupTree}
+use Rattle.ep_tree.specs.declared.tree.ParamTree.{ParamTree}
+use Rattle.ep_tree.specs.declared.tree.FormulaTree.{FormulaTree, roll-FormulaTree}
+use Rattle.ep_tree.specs.declared.tree.FormulaTree.TheOpen.{FormulaTree-F}
+use Rattle.ep_tree.specs.declared.tree.FormulaTree.TheVariants as tree
+use Rattle.ep_tree.specs.declared.tree.FormulaTree.TheFolds.{map-FormulaTree, ind-FormulaTree}
 use Rattle.ep_types.specs.declared.scope.Declared.{Declared}
 use Rattle.ep_universe.specs.Objects.{Binding, agent_at, group_of, candidates, bound}
 use Rattle.ep_universe.specs.Formulas.{ground_of, conjunction, disjunction, instances}

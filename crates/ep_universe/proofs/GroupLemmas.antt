@@ -6,8 +6,8 @@ use Rattle.std.proofs.lemmas.List.{take_more, map-append, length-drop, get_or-dr
 use Rattle.std.proofs.lemmas.List.Quantifiers.{position-Some}
 use Rattle.ep_logic.specs.AgentSets.{is_nobody}
 use Rattle.ep_theory.specs.Numbers.{has_number}
-use Rattle.ep_syntax.specs.declared.tree.Name.{Name}
-use Rattle.ep_syntax.specs.declared.tree.GroupTree.TheVariants.{Members}
+use Rattle.ep_tree.specs.declared.tree.Name.{Name}
+use Rattle.ep_tree.specs.declared.tree.GroupTree.TheVariants.{Members}
 use Rattle.ep_types.specs.declared.scope.Declared.{Declared}
 use Rattle.ep_universe.specs.Limits.{IsWithin}
 use Rattle.ep_universe.specs.Objects.{Binding, object_at, agent_at, agents_of, eight}

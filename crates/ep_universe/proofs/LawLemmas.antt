@@ -5,7 +5,7 @@ use Rattle.std.proofs.lemmas.List.Folds.{list_any_at}
 use Rattle.ep_theory.specs.Fits.{fits_in}
 use Rattle.ep_theory.specs.Numbers.{has_number}
 use Rattle.ep_binding.specs.Bindings.{IsBinding}
-use Rattle.ep_syntax.specs.declared.tree.TaskTree.{TaskTree}
+use Rattle.ep_tree.specs.declared.tree.TaskTree.{TaskTree}
 use Rattle.ep_types.specs.Names.{Text, declared, is_below}
 use Rattle.ep_types.specs.Places.{Scope, closed}
 use Rattle.ep_types.specs.Tasks.{HasNoFault, declarations}

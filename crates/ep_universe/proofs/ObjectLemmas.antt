@@ -3,7 +3,7 @@ use Rattle.std.proofs.Common.{◌≡◌, ℕ, zero, suc, ◌+◌, ◌<◌, ◌�
 use Rattle.std.proofs.lemmas.List.{take_more, drop_more}
 use Rattle.std.proofs.lemmas.Option.{get_or_from_slice_get}
 use Rattle.ep_theory.specs.Numbers.{numbers_where}
-use Rattle.ep_syntax.specs.declared.tree.ParamTree.{ParamTree}
+use Rattle.ep_tree.specs.declared.tree.ParamTree.{ParamTree}
 use Rattle.ep_types.specs.Names.{Text, declared, is_text, is_below, values_of}
 use Rattle.ep_types.specs.declared.scope.Declared.{Declared}
 use Rattle.ep_universe.specs.Objects.{Binding, type_at, has_type, bound, candidates}

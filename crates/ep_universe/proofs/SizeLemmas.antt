@@ -4,16 +4,16 @@ use Rattle.std.specs.List.{list_all}
 use Rattle.std.proofs.lemmas.Bool.Decides.{nat_tests}
 use Rattle.std.proofs.lemmas.List.{length-map}
 use Rattle.ep_logic.specs.Nodes.{largest}
-use Rattle.ep_syntax.specs.Formed.{formed_layer, formed_formula, formed_group, formed_name, formed_params, is_true}
-use Rattle.ep_syntax.specs.Marks.{Mark, IsShallow, fixed}
-use Rattle.ep_syntax.specs.Spelling as spell
-use Rattle.ep_syntax.specs.declared.terminal.Terminal.{Terminal}
-use Rattle.ep_syntax.specs.declared.terminal.Terminal.TheVariants as the
-use Rattle.ep_syntax.specs.declared.tree.GroupTree.{GroupTree}
-use Rattle.ep_syntax.specs.declared.tree.GroupTree.TheVariants.{All, Members}
-use Rattle.ep_syntax.specs.declared.tree.FormulaTree.{FormulaTree, roll-FormulaTree}
-use Rattle.ep_syntax.specs.declared.tree.FormulaTree.TheOpen.{FormulaTree-F}
-use Rattle.ep_syntax.specs.declared.tree.FormulaTree.TheFolds.{map-FormulaTree, fold-roll-FormulaTree, ind-FormulaTree}
+use Rattle.ep_tree.specs.Formed.{formed_layer, formed_formula, formed_group, formed_name, formed_params, is_true}
+use Rattle.ep_tree.specs.Marks.{Mark, IsShallow, fixed}
+use Rattle.ep_tree.specs.Spelling as spell
+use Rattle.ep_tree.specs.declared.terminal.Terminal.{Terminal}
+use Rattle.ep_tree.specs.declared.terminal.Terminal.TheVariants as the
+use Rattle.ep_tree.specs.declared.tree.GroupTree.{GroupTree}
+use Rattle.ep_tree.specs.declared.tree.GroupTree.TheVariants.{All, Members}
+use Rattle.ep_tree.specs.declared.tree.FormulaTree.{FormulaTree, roll-FormulaTree}
+use Rattle.ep_tree.specs.declared.tree.FormulaTree.TheOpen.{FormulaTree-F}
+use Rattle.ep_tree.specs.declared.tree.FormulaTree.TheFolds.{map-FormulaTree, fold-roll-FormulaTree, ind-FormulaTree}
 use Rattle.ep_types.specs.Faults.{first_fault, first_row, table}
 use Rattle.ep_types.specs.Places.{Scope, Uses, with_params, both, at, each, Group, Knowledge}
 use Rattle.ep_types.specs.Uses.{param_uses, agent_uses, group_uses, knower_uses, knowers_uses, production, formula_uses}

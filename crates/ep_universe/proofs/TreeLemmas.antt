@@ -6,14 +6,14 @@ use Rattle.ep_logic.specs.declared.formula.Node.{Node}
 use Rattle.ep_logic.specs.declared.formula.Node.TheVariants as node
 use Rattle.ep_logic.specs.Nodes.{largest}
 use Rattle.ep_binding.specs.Bindings.{binding_count}
-use Rattle.ep_syntax.specs.declared.tree.Name.{Name}
-use Rattle.ep_syntax.specs.declared.tree.AtomTree.{AtomTree}
-use Rattle.ep_syntax.specs.declared.tree.GroupTree.{GroupTree}
-use Rattle.ep_syntax.specs.declared.tree.ParamTree.{ParamTree}
-use Rattle.ep_syntax.specs.declared.tree.FormulaTree.{FormulaTree, roll-FormulaTree}
-use Rattle.ep_syntax.specs.declared.tree.FormulaTree.TheOpen.{FormulaTree-F}
-use Rattle.ep_syntax.specs.declared.tree.FormulaTree.TheVariants as tree
-use Rattle.ep_syntax.specs.declared.tree.FormulaTree.TheFolds.{map-FormulaTree, fold-roll-FormulaTree}
+use Rattle.ep_tree.specs.declared.tree.Name.{Name}
+use Rattle.ep_tree.specs.declared.tree.AtomTree.{AtomTree}
+use Rattle.ep_tree.specs.declared.tree.GroupTree.{GroupTree}
+use Rattle.ep_tree.specs.declared.tree.ParamTree.{ParamTree}
+use Rattle.ep_tree.specs.declared.tree.FormulaTree.{FormulaTree, roll-FormulaTree}
+use Rattle.ep_tree.specs.declared.tree.FormulaTree.TheOpen.{FormulaTree-F}
+use Rattle.ep_tree.specs.declared.tree.FormulaTree.TheVariants as tree
+use Rattle.ep_tree.specs.declared.tree.FormulaTree.TheFolds.{map-FormulaTree, fold-roll-FormulaTree}
 use Rattle.ep_types.specs.declared.scope.Declared.{Declared}
 use Rattle.ep_universe.specs.Objects.{Binding, object_at, agent_at, group_of, candidates}
 use Rattle.ep_universe.specs.Atoms.{atom_at}

@@ -13,14 +13,14 @@ use Rattle.ep_logic.specs.declared.formula.Node.TheVariants as node
 use Rattle.ep_theory.specs.Fits.{fits_in}
 use Rattle.ep_theory.specs.Numbers.{has_number}
 use Rattle.ep_binding.specs.Bindings.{bindings}
-use Rattle.ep_syntax.specs.declared.tree.Name.{Name}
-use Rattle.ep_syntax.specs.declared.tree.AtomTree.{AtomTree}
-use Rattle.ep_syntax.specs.declared.tree.GroupTree.{GroupTree}
-use Rattle.ep_syntax.specs.declared.tree.GroupTree.TheVariants.{All, Members}
-use Rattle.ep_syntax.specs.declared.tree.ParamTree.{ParamTree}
-use Rattle.ep_syntax.specs.declared.tree.FormulaTree.{FormulaTree, roll-FormulaTree}
-use Rattle.ep_syntax.specs.declared.tree.FormulaTree.TheOpen.{FormulaTree-F}
-use Rattle.ep_syntax.specs.declared.tree.FormulaTree.TheFolds.{map-FormulaTree, fold-roll-FormulaTree, ind-FormulaTree}
+use Rattle.ep_tree.specs.declared.tree.Name.{Name}
+use Rattle.ep_tree.specs.declared.tree.AtomTree.{AtomTree}
+use Rattle.ep_tree.specs.declared.tree.GroupTree.{GroupTree}
+use Rattle.ep_tree.specs.declared.tree.GroupTree.TheVariants.{All, Members}
+use Rattle.ep_tree.specs.declared.tree.ParamTree.{ParamTree}
+use Rattle.ep_tree.specs.declared.tree.FormulaTree.{FormulaTree, roll-FormulaTree}
+use Rattle.ep_tree.specs.declared.tree.FormulaTree.TheOpen.{FormulaTree-F}
+use Rattle.ep_tree.specs.declared.tree.FormulaTree.TheFolds.{map-FormulaTree, fold-roll-FormulaTree, ind-FormulaTree}
 use Rattle.ep_types.specs.Faults.{first_fault, first_row, table, is_apart, has_other_count}
 use Rattle.ep_types.specs.Names.{Text, Typings, declared, is_text, is_below, names_of, values_of}
 use Rattle.ep_types.specs.Places.{Scope, Uses, with_param, with_params, type_of, or_object, nothing, both, at, each, UsedFluent, Argument, Agent, Group, Knowledge}

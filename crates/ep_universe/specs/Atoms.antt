@@ -2,7 +2,7 @@
 use Rattle.std.specs.Prelude.{ℕ, ◌+◌, Bool, ◌&&◌, ◌==◌, nat_eq, List, [], ◌∷◌, ◌++◌, map, position, unwrap_or}
 use Rattle.std.specs.Cmp.Lexicographic.{pointwise}
 use Rattle.ep_binding.specs.Bindings.{bindings}
-use Rattle.ep_syntax.specs.declared.tree.AtomTree.{AtomTree}
+use Rattle.ep_tree.specs.declared.tree.AtomTree.{AtomTree}
 use Rattle.ep_types.specs.Names.{Text, is_text, names_of, values_of}
 use Rattle.ep_types.specs.declared.scope.Declared.{Declared}
 use Rattle.ep_universe.specs.declared.atoms.GroundAtom.{GroundAtom}

@@ -1,7 +1,7 @@
 -- The first token of a formula.
 use Rattle.std.specs.Prelude.{ℕ}
-use Rattle.ep_syntax.specs.declared.tree.FormulaTree.{FormulaTree, out-FormulaTree}
-use Rattle.ep_syntax.specs.declared.tree.FormulaTree.TheOpen.{FormulaTree-F}
+use Rattle.ep_tree.specs.declared.tree.FormulaTree.{FormulaTree, out-FormulaTree}
+use Rattle.ep_tree.specs.declared.tree.FormulaTree.TheOpen.{FormulaTree-F}
 
 abbrev pub token_of : FormulaTree-F FormulaTree → ℕ
 token_of (FormulaTree-F.True token) = token

@@ -2,10 +2,10 @@
 use Rattle.std.specs.Prelude.{ℕ, Bool, ◌==◌, List, [], ◌∷◌, length, map, Option, Some, None, position, unwrap_or, slice_index_or, codes}
 use Rattle.ep_logic.specs.AgentSets.{first_agents}
 use Rattle.ep_theory.specs.Numbers.{numbers_where, has_number}
-use Rattle.ep_syntax.specs.declared.tree.Name.{Name}
-use Rattle.ep_syntax.specs.declared.tree.GroupTree.{GroupTree}
-use Rattle.ep_syntax.specs.declared.tree.GroupTree.TheVariants.{All, Members}
-use Rattle.ep_syntax.specs.declared.tree.ParamTree.{ParamTree}
+use Rattle.ep_tree.specs.declared.tree.Name.{Name}
+use Rattle.ep_tree.specs.declared.tree.GroupTree.{GroupTree}
+use Rattle.ep_tree.specs.declared.tree.GroupTree.TheVariants.{All, Members}
+use Rattle.ep_tree.specs.declared.tree.ParamTree.{ParamTree}
 use Rattle.ep_types.specs.Names.{Text, is_text, names_of, values_of, declared, is_below}
 use Rattle.ep_types.specs.declared.scope.Declared.{Declared}
 

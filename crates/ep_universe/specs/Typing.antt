@@ -2,14 +2,14 @@
 use Rattle.std.specs.Prelude.{◌≡◌, ℕ, ◌<◌, ◌≤◌, List, length, slice_get, Some, None, IsTrue}
 use Rattle.ep_binding.specs.Bindings.{IsBinding}
 use Rattle.ep_theory.specs.Fits.{fits_in}
-use Rattle.ep_syntax.specs.Formed.{IsFormedFormula}
-use Rattle.ep_syntax.specs.Grammar.{formulas}
-use Rattle.ep_syntax.specs.Marks.{IsShallow}
-use Rattle.ep_syntax.specs.declared.tree.Name.{Name}
-use Rattle.ep_syntax.specs.declared.tree.AtomTree.{AtomTree}
-use Rattle.ep_syntax.specs.declared.tree.ParamTree.{ParamTree}
-use Rattle.ep_syntax.specs.declared.tree.FormulaTree.{FormulaTree}
-use Rattle.ep_syntax.specs.declared.tree.TaskTree.{TaskTree}
+use Rattle.ep_tree.specs.Formed.{IsFormedFormula}
+use Rattle.ep_tree.specs.Grammar.{formulas}
+use Rattle.ep_tree.specs.Marks.{IsShallow}
+use Rattle.ep_tree.specs.declared.tree.Name.{Name}
+use Rattle.ep_tree.specs.declared.tree.AtomTree.{AtomTree}
+use Rattle.ep_tree.specs.declared.tree.ParamTree.{ParamTree}
+use Rattle.ep_tree.specs.declared.tree.FormulaTree.{FormulaTree}
+use Rattle.ep_tree.specs.declared.tree.TaskTree.{TaskTree}
 use Rattle.ep_types.specs.Faults.{first_fault}
 use Rattle.ep_types.specs.Names.{Text, declared}
 use Rattle.ep_types.specs.Places.{Scope, closed, with_params, at, Agent}

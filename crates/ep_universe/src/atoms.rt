@@ -11,7 +11,7 @@ ghost use Rattle.ep_universe.specs.Objects.{objects_of, object_at};
 use crate::objects::{Bound, object_at, objects_of};
 use ep_binding::{binding_count, bindings};
 use ep_logic::{List, OutOfMemory};
-use ep_syntax::{AtomTree, Name};
+use ep_tree::{AtomTree, Name};
 use ep_types::Typed;
 use std::alloc::Global;
 

@@ -7,7 +7,7 @@ ghost use Rattle.ep_universe.specs.Counts.{capped, ground_count, repeated};
 ghost use Rattle.ep_universe.specs.Objects.{candidates, objects_of};
 ghost use Rattle.ep_universe.specs.FirstToken.{first_token};
 
-use ep_syntax::{FormulaTree, ParamTree};
+use ep_tree::{FormulaTree, ParamTree};
 use ep_types::Typed;
 
 /// The most nodes of a ground formula.

@@ -3,9 +3,9 @@
 ghost use Rattle.std.specs.Prelude.{◌≡◌, ◌+◌, ◌<◌, ◌≤◌, ◌^◌, ◌==◌, [], ◌∷◌, false, length, map, if◌then◌else◌, IfErr, IfOk, MatchResult, IsTrue, None};
 ghost use Rattle.ep_logic.specs.AgentSets.{is_nobody};
 ghost use Rattle.ep_logic.specs.declared.formula.Node.TheVariants.{Not, Knows, Common, And, Or, True, False};
-ghost use Rattle.ep_syntax.specs.Formed.{IsFormedFormula};
-ghost use Rattle.ep_syntax.specs.Grammar.{formulas};
-ghost use Rattle.ep_syntax.specs.Marks.{IsShallow};
+ghost use Rattle.ep_tree.specs.Formed.{IsFormedFormula};
+ghost use Rattle.ep_tree.specs.Grammar.{formulas};
+ghost use Rattle.ep_tree.specs.Marks.{IsShallow};
 ghost use Rattle.ep_theory.specs.Fits.{fits_in};
 ghost use Rattle.ep_universe.specs.Atoms.{atoms_of};
 ghost use Rattle.ep_universe.specs.FormulaFaults.{formula_refusal, TellsFormula};
@@ -19,7 +19,7 @@ use crate::objects::{Bound, wider};
 use crate::universe::Universe;
 use ep_binding::bindings;
 use ep_logic::{AgentId, Agents, Formula, FormulaError, List, OutOfMemory};
-use ep_syntax::{FormulaTree, Name, ParamTree};
+use ep_tree::{FormulaTree, Name, ParamTree};
 use ep_types::check_formula;
 use std::alloc::Global;
 

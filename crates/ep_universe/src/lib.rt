@@ -12,6 +12,3 @@ pub mod universe;
 pub use fault::FormulaFault;
 pub use formula::ground_formula;
 pub use universe::Universe;
-
-#[cfg(test)]
-mod tests;

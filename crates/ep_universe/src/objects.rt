@@ -6,7 +6,7 @@ ghost use Rattle.ep_types.specs.Tasks.{declarations};
 ghost use Rattle.ep_universe.specs.Objects as spec;
 
 use ep_logic::{List, OutOfMemory};
-use ep_syntax::ParamTree;
+use ep_tree::ParamTree;
 use ep_types::Typed;
 use std::alloc::Global;
 use std::marker::Model;

@@ -12,7 +12,7 @@ ghost use Rattle.ep_universe.specs.Sizes.{has_member};
 use crate::atoms::{GroundAtom, atoms_of, find_atom, ground_atom};
 use crate::objects::{Bound, candidates, object_at, objects_of};
 use ep_logic::{AgentId, Agents, AtomId, List, OutOfMemory};
-use ep_syntax::{AtomTree, GroupTree, Name, ParamTree};
+use ep_tree::{AtomTree, GroupTree, Name, ParamTree};
 use ep_types::Typed;
 use std::alloc::Global;
 use std::marker::Model;

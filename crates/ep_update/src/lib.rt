@@ -7,8 +7,6 @@ mod labels;
 mod places;
 mod rows;
 mod stuck;
-#[cfg(test)]
-mod tests;
 mod truth;
 mod update;
 

@@ -8,6 +8,3 @@ mod words;
 
 pub use command::{Bounds, Command, Usage};
 pub use words::{is_file_word, read_words};
-
-#[cfg(test)]
-mod tests;

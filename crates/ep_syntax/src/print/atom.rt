@@ -2,17 +2,17 @@
 
 ghost use Rattle.std.specs.Prelude.{◌≡◌, OnOk};
 ghost use Rattle.ep_syntax.specs.Printing.{written};
-ghost use Rattle.ep_syntax.specs.Spelling as spell;
+ghost use Rattle.ep_tree.specs.Spelling as spell;
 
 use crate::print::{Print, print_between, print_listed};
 use crate::printer::Printer;
-use crate::terminal::Terminal;
-use crate::tree::{AtomTree, GroupTree, Name, ParamTree};
-use ep_logic::OutOfMemory;
+use ep_tree::Terminal;
+use ep_tree::{AtomTree, GroupTree, Name, ParamTree};
+use ep_base::OutOfMemory;
 
 impl Print for Name {
     ghost use Rattle.std.specs.Prelude.{[], ◌∷◌};
-    ghost use Rattle.ep_syntax.specs.Marks.{named};
+    ghost use Rattle.ep_tree.specs.Marks.{named};
 
     ghost marks = { λ n. named n ∷ [] };
 
@@ -36,7 +36,7 @@ pub fn print_arguments(names: &[Name], printer: &mut Printer) -> Result<(), OutO
 
 impl Print for AtomTree {
     ghost use Rattle.std.specs.Prelude.{None};
-    ghost use Rattle.ep_syntax.specs.Spelling.{atom};
+    ghost use Rattle.ep_tree.specs.Spelling.{atom};
 
     ghost marks = { λ a. atom None a };
 
@@ -47,7 +47,7 @@ impl Print for AtomTree {
 }
 
 impl Print for GroupTree {
-    ghost use Rattle.ep_syntax.specs.Spelling.{group};
+    ghost use Rattle.ep_tree.specs.Spelling.{group};
 
     ghost marks = { group };
 
@@ -61,7 +61,7 @@ impl Print for GroupTree {
 }
 
 impl Print for ParamTree {
-    ghost use Rattle.ep_syntax.specs.Spelling.{param};
+    ghost use Rattle.ep_tree.specs.Spelling.{param};
 
     ghost marks = { param };
 

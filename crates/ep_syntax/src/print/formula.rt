@@ -1,16 +1,16 @@
 //! Formulas. A formula is spelled alike at each nesting.
 
 ghost use Rattle.std.specs.Prelude.{◌≡◌, ℕ, [], ◌∷◌, ◌++◌, map, OnOk};
-ghost use Rattle.ep_syntax.specs.Marks.{fixed, named};
+ghost use Rattle.ep_tree.specs.Marks.{fixed, named};
 ghost use Rattle.ep_syntax.specs.Printing.{written};
-ghost use Rattle.ep_syntax.specs.Spelling as spell;
-ghost use Rattle.ep_syntax.specs.declared.terminal.Terminal.TheVariants as the;
+ghost use Rattle.ep_tree.specs.Spelling as spell;
+ghost use Rattle.ep_tree.specs.declared.terminal.Terminal.TheVariants as the;
 
 use crate::print::{Print, print_between};
 use crate::printer::Printer;
-use crate::terminal::Terminal;
-use crate::tree::{FormulaTree, Name, ParamTree};
-use ep_logic::OutOfMemory;
+use ep_tree::Terminal;
+use ep_tree::{FormulaTree, Name, ParamTree};
+use ep_base::OutOfMemory;
 
 #[tactic(auto, using(crate::proofs::PrintedLemmas::printed))]
 fn print_params(params: &[ParamTree], printer: &mut Printer) -> Result<(), OutOfMemory>
@@ -106,7 +106,7 @@ fn print_formula(formula: &FormulaTree, printer: &mut Printer) -> Result<(), Out
 }
 
 impl Print for FormulaTree {
-    ghost use Rattle.ep_syntax.specs.Spelling.{formula};
+    ghost use Rattle.ep_tree.specs.Spelling.{formula};
 
     ghost marks = { formula };
 

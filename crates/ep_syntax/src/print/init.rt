@@ -2,21 +2,21 @@
 
 ghost use Rattle.std.specs.Prelude.{◌≡◌, [], ◌∷◌, ◌++◌, OnOk};
 ghost use Rattle.std.specs.List.{flat_map};
-ghost use Rattle.ep_syntax.specs.Marks.{fixed};
+ghost use Rattle.ep_tree.specs.Marks.{fixed};
 ghost use Rattle.ep_syntax.specs.Printing.{written};
-ghost use Rattle.ep_syntax.specs.Spelling as spell;
-ghost use Rattle.ep_syntax.specs.declared.terminal.Terminal.TheVariants as the;
+ghost use Rattle.ep_tree.specs.Spelling as spell;
+ghost use Rattle.ep_tree.specs.declared.terminal.Terminal.TheVariants as the;
 
 use crate::print::{Print, print_each, print_listed};
 use crate::printer::Printer;
-use crate::terminal::Terminal;
-use crate::tree::{
+use ep_tree::Terminal;
+use ep_tree::{
     AtomTree, FormulaTree, InitTree, LinkTree, Name, PairTree, PairsTree, SeesTree, WorldTree,
 };
-use ep_logic::{List, OutOfMemory};
+use ep_base::{List, OutOfMemory};
 
 impl Print for PairTree {
-    ghost use Rattle.ep_syntax.specs.Spelling.{pair};
+    ghost use Rattle.ep_tree.specs.Spelling.{pair};
 
     ghost marks = { pair };
 
@@ -28,7 +28,7 @@ impl Print for PairTree {
 }
 
 impl Print for PairsTree {
-    ghost use Rattle.ep_syntax.specs.Spelling.{pairs};
+    ghost use Rattle.ep_tree.specs.Spelling.{pairs};
 
     ghost marks = { pairs };
 
@@ -42,7 +42,7 @@ impl Print for PairsTree {
 }
 
 impl Print for LinkTree {
-    ghost use Rattle.ep_syntax.specs.Spelling.{link};
+    ghost use Rattle.ep_tree.specs.Spelling.{link};
 
     ghost marks = { link };
 
@@ -56,7 +56,7 @@ impl Print for LinkTree {
 }
 
 impl Print for WorldTree {
-    ghost use Rattle.ep_syntax.specs.Spelling.{world};
+    ghost use Rattle.ep_tree.specs.Spelling.{world};
 
     ghost marks = { world };
 
@@ -68,7 +68,7 @@ impl Print for WorldTree {
 }
 
 impl Print for SeesTree {
-    ghost use Rattle.ep_syntax.specs.Spelling.{sees};
+    ghost use Rattle.ep_tree.specs.Spelling.{sees};
 
     ghost marks = { sees };
 
@@ -176,7 +176,7 @@ fn print_items(init: &InitTree, printer: &mut Printer) -> Result<(), OutOfMemory
 }
 
 impl Print for InitTree {
-    ghost use Rattle.ep_syntax.specs.Spelling.{init};
+    ghost use Rattle.ep_tree.specs.Spelling.{init};
 
     ghost marks = { init };
 

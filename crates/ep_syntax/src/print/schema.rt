@@ -1,20 +1,20 @@
 //! Action schemas.
 
 ghost use Rattle.std.specs.Prelude.{◌≡◌, [], ◌∷◌, ◌++◌, OnOk};
-ghost use Rattle.ep_syntax.specs.Marks.{fixed};
+ghost use Rattle.ep_tree.specs.Marks.{fixed};
 ghost use Rattle.ep_syntax.specs.Printing.{written};
-ghost use Rattle.ep_syntax.specs.Spelling as spell;
-ghost use Rattle.ep_syntax.specs.declared.terminal.Terminal.TheVariants as the;
+ghost use Rattle.ep_tree.specs.Spelling as spell;
+ghost use Rattle.ep_tree.specs.declared.terminal.Terminal.TheVariants as the;
 
 use crate::print::init::{print_relations, print_sentence};
 use crate::print::{Print, print_between, print_block, print_each};
 use crate::printer::Printer;
-use crate::terminal::Terminal;
-use crate::tree::{BodyTree, EventTree, FormulaTree, GroupTree, ParamTree, SchemaTree, SetTree};
-use ep_logic::OutOfMemory;
+use ep_tree::Terminal;
+use ep_tree::{BodyTree, EventTree, FormulaTree, GroupTree, ParamTree, SchemaTree, SetTree};
+use ep_base::OutOfMemory;
 
 impl Print for SetTree {
-    ghost use Rattle.ep_syntax.specs.Spelling.{set};
+    ghost use Rattle.ep_tree.specs.Spelling.{set};
 
     ghost marks = { set };
 
@@ -28,7 +28,7 @@ impl Print for SetTree {
 }
 
 impl Print for EventTree {
-    ghost use Rattle.ep_syntax.specs.Spelling.{event};
+    ghost use Rattle.ep_tree.specs.Spelling.{event};
 
     ghost marks = { event };
 
@@ -62,7 +62,7 @@ fn print_news(
 }
 
 impl Print for BodyTree {
-    ghost use Rattle.ep_syntax.specs.Spelling.{body};
+    ghost use Rattle.ep_tree.specs.Spelling.{body};
 
     ghost marks = { body };
 
@@ -116,7 +116,7 @@ fn print_signature(
 }
 
 impl Print for SchemaTree {
-    ghost use Rattle.ep_syntax.specs.Spelling.{schema};
+    ghost use Rattle.ep_tree.specs.Spelling.{schema};
 
     ghost marks = { schema };
 

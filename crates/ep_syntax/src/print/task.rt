@@ -1,24 +1,24 @@
 //! Whole tasks.
 
 ghost use Rattle.std.specs.Prelude.{◌≡◌, [], ◌∷◌, ◌++◌, OnOk, IfOk};
-ghost use Rattle.ep_syntax.specs.Formed.{IsFormedTask};
+ghost use Rattle.ep_tree.specs.Formed.{IsFormedTask};
 ghost use Rattle.ep_syntax.specs.Layout.{layout_of};
-ghost use Rattle.ep_syntax.specs.Marks.{fixed, named, IsShallow};
+ghost use Rattle.ep_tree.specs.Marks.{fixed, named, IsShallow};
 ghost use Rattle.ep_syntax.specs.Printing.{written};
-ghost use Rattle.ep_syntax.specs.Spelling as spell;
-ghost use Rattle.ep_syntax.specs.declared.terminal.Terminal.TheVariants as the;
+ghost use Rattle.ep_tree.specs.Spelling as spell;
+ghost use Rattle.ep_tree.specs.declared.terminal.Terminal.TheVariants as the;
 
 use crate::print::atom::print_arguments;
 use crate::print::init::print_sentence;
 use crate::print::{Print, print_between, print_block, print_each};
 use crate::printer::Printer;
-use crate::terminal::Terminal;
-use crate::tree::{FluentTree, ObjectTree, TaskTree, TypeTree};
-use ep_logic::{List, OutOfMemory, Text};
+use ep_tree::Terminal;
+use ep_tree::{FluentTree, ObjectTree, TaskTree, TypeTree};
+use ep_base::{List, OutOfMemory, Text};
 use std::alloc::Global;
 
 impl Print for TypeTree {
-    ghost use Rattle.ep_syntax.specs.Spelling.{type_entry};
+    ghost use Rattle.ep_tree.specs.Spelling.{type_entry};
 
     ghost marks = { type_entry };
 
@@ -31,7 +31,7 @@ impl Print for TypeTree {
 }
 
 impl Print for ObjectTree {
-    ghost use Rattle.ep_syntax.specs.Spelling.{object_entry};
+    ghost use Rattle.ep_tree.specs.Spelling.{object_entry};
 
     ghost marks = { object_entry };
 
@@ -45,7 +45,7 @@ impl Print for ObjectTree {
 }
 
 impl Print for FluentTree {
-    ghost use Rattle.ep_syntax.specs.Spelling.{fluent_entry};
+    ghost use Rattle.ep_tree.specs.Spelling.{fluent_entry};
 
     ghost marks = { fluent_entry };
 
@@ -86,7 +86,7 @@ fn print_head(tree: &TaskTree, printer: &mut Printer) -> Result<(), OutOfMemory>
 }
 
 impl Print for TaskTree {
-    ghost use Rattle.ep_syntax.specs.Spelling.{task};
+    ghost use Rattle.ep_tree.specs.Spelling.{task};
 
     ghost marks = { task };
 

@@ -1,6 +1,6 @@
 -- The answer of the search is told as an answer of planning, and whether it rests on the guide.
 use Rattle.std.proofs.Common.{ap, subst}
-use Rattle.ep_problem.specs.PlanningTask.{PlanningTask}
+use Rattle.ep_theory.specs.PlanningTask.{PlanningTask}
 use Rattle.ep_search.specs.Allowed.{Allowed}
 use Rattle.ep_search.specs.declared.answer.Bounds.{Bounds as SearchBounds}
 use Rattle.ep_cli.specs.declared.answer.Answer.TheVariants.{OfSearch}

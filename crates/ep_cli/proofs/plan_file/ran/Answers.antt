@@ -1,6 +1,6 @@
 -- What the plan leaves, or where its run stops.
 use Rattle.std.proofs.Common.{subst, sym}
-use Rattle.ep_problem.specs.PlanningTask.{PlanningTask}
+use Rattle.ep_theory.specs.PlanningTask.{PlanningTask}
 use Rattle.ep_plan.specs.Runs.{AreOf, RunUnder}
 use Rattle.ep_plan.specs.declared.runs.Outcome.{Outcome}
 use Rattle.ep_cli.specs.PlanFile.{run_size}

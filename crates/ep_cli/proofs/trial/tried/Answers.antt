@@ -1,6 +1,6 @@
 -- The trial, from the contraction and the answer.
 use Rattle.std.proofs.Common.{refl, subst, ◌∙◌, ap}
-use Rattle.ep_problem.specs.PlanningTask.{PlanningTask}
+use Rattle.ep_theory.specs.PlanningTask.{PlanningTask}
 use Rattle.ep_search.specs.Allowed.{Allowed}
 use Rattle.ep_search.specs.declared.answer.Mode.TheVariants as mode
 use Rattle.ep_theory.specs.Kripke.{Kripke}

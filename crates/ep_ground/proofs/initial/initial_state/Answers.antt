@@ -1,5 +1,5 @@
 use Rattle.std.proofs.Common.{◌≡◌, sym, subst, rules, IfOk}
-use Rattle.ep_syntax.specs.declared.tree.InitTree.TheVariants.{Explicit, Lawful}
+use Rattle.ep_tree.specs.declared.tree.InitTree.TheVariants.{Explicit, Lawful}
 use Rattle.ep_parts.proofs.WordLemmas.{explicit_buildable}
 use Rattle.ep_ground.specs.Grounding.{initial_of}
 use Rattle.ep_ground.proofs.InitialLemmas.{forms_ground}

@@ -1,5 +1,5 @@
 use Rattle.std.proofs.Common.{◌≡◌, ◌≤◌, All, sym, subst, rules, length, arith}
-use Rattle.ep_syntax.specs.declared.tree.SchemaTree.{SchemaTree}
+use Rattle.ep_tree.specs.declared.tree.SchemaTree.{SchemaTree}
 use Rattle.ep_types.specs.Tasks.{declarations}
 use Rattle.ep_types.specs.declared.scope.Declared.{Declared}
 use Rattle.ep_parts.specs.PrintedNames.{AreNames, action_names}

@@ -2,7 +2,7 @@ use Rattle.std.proofs.Common.{◌≡◌, ◌+◌, ap, sym, ◌∙◌, arith, unw
 use Rattle.std.specs.Option.{option_copied}
 use Rattle.ep_theory.specs.FourActions.{is_member}
 use Rattle.ep_event.proofs.KindLemmas.{has_is_member}
-use Rattle.ep_syntax.specs.declared.tree.PairsTree.TheVariants.{Same}
+use Rattle.ep_tree.specs.declared.tree.PairsTree.TheVariants.{Same}
 use Rattle.ep_universe.specs.Objects.{group_of}
 use Rattle.ep_parts.specs.Links.{last_pairs}
 use Rattle.ep_parts.proofs.LinkLemmas.{last_more}

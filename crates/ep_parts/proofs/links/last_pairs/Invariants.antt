@@ -1,6 +1,6 @@
 use Rattle.std.proofs.Common.{◌≡◌, drop, unwrap_or}
 use Rattle.std.specs.Option.{option_copied}
-use Rattle.ep_syntax.specs.declared.tree.PairsTree.TheVariants.{Same}
+use Rattle.ep_tree.specs.declared.tree.PairsTree.TheVariants.{Same}
 use Rattle.ep_parts.specs.Links.{last_pairs}
 use Rattle.ep_parts.proofs.links.last_pairs.Given as goal
 

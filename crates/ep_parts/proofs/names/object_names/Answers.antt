@@ -1,7 +1,7 @@
 use Rattle.std.proofs.Common.{◌≡◌, take, length, ap, sym, ◌∙◌, arith}
 use Rattle.std.specs.List.{flat_map}
 use Rattle.std.proofs.lemmas.List.{take_all}
-use Rattle.ep_syntax.specs.declared.tree.ObjectTree.{ObjectTree}
+use Rattle.ep_tree.specs.declared.tree.ObjectTree.{ObjectTree}
 use Rattle.ep_types.specs.Atoms.{texts}
 use Rattle.ep_parts.proofs.NameLemmas.{objects-declared}
 use Rattle.ep_parts.proofs.names.object_names.Goals as goal

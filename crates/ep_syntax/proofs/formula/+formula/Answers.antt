@@ -2,7 +2,8 @@ use Rattle.std.proofs.Common.{◌≡◌, ◌+◌, ◌-◌, true, false, Bool, Er
 use Rattle.std.specs.Prelude.{◌==◌}
 use Rattle.std.proofs.lemmas.Result.{err_from_is_err_and}
 use Rattle.ep_syntax.specs.FormulaReading.{formula, by_token}
-use Rattle.ep_syntax.specs.Reading.{begins, is, behind_key, Syntax, TooDeep}
+use Rattle.ep_syntax.specs.Reading.{begins, behind_key, Syntax, TooDeep}
+use Rattle.ep_tree.specs.Terminals.{is}
 use Rattle.ep_syntax.proofs.FormulaSteps.{formula-suc, formula-deep, formula-none, gives_same}
 use Rattle.ep_syntax.proofs.Loops.{going_on, going_stop, going_stops, going_end}
 use Rattle.ep_syntax.proofs.formula.+formula.Goals as goal

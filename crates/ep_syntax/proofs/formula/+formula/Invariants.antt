@@ -1,6 +1,7 @@
 use Rattle.std.proofs.Common.{ℕ, ◌+◌, ◌-◌, ◌*◌, ◌∷◌}
 use Rattle.ep_syntax.specs.FormulaReading.{formula, some_behind}
-use Rattle.ep_syntax.specs.Reading.{made, behind_key, is}
+use Rattle.ep_syntax.specs.Reading.{made, behind_key}
+use Rattle.ep_tree.specs.Terminals.{is}
 use Rattle.ep_syntax.proofs.Loops.{Going}
 use Rattle.ep_syntax.proofs.formula.+formula.Given as goal
 

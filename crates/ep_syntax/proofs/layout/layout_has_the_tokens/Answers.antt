@@ -1,4 +1,4 @@
-use Rattle.ep_syntax.specs.Grammar.{tasks, spelling_of}
+use Rattle.ep_tree.specs.Grammar.{tasks, spelling_of}
 use Rattle.ep_syntax.proofs.LayoutTokens.{some-laid_out, spellings-laid_out}
 use Rattle.ep_syntax.proofs.SpelledTasks.{spellings-task}
 use Rattle.ep_syntax.proofs.layout.layout_has_the_tokens.Goals as goal

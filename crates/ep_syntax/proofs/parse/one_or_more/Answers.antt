@@ -1,7 +1,8 @@
 use Rattle.std.proofs.Common.{◌≡◌, ◌+◌, ◌-◌, suc, true, false, arith}
 use Rattle.std.proofs.lemmas.Result.{err_from_is_err_and}
-use Rattle.ep_syntax.specs.declared.terminal.Terminal.TheVariants as the
-use Rattle.ep_syntax.specs.Reading.{behind_key, begins, is}
+use Rattle.ep_tree.specs.declared.terminal.Terminal.TheVariants as the
+use Rattle.ep_syntax.specs.Reading.{behind_key, begins}
+use Rattle.ep_tree.specs.Terminals.{is}
 use Rattle.ep_syntax.proofs.Loops.{going_on, going_stop, going_stops, going_end}
 use Rattle.ep_syntax.proofs.parse.one_or_more.Goals as goal
 use Rattle.ep_syntax.proofs.parse.one_or_more.Goals.{else-loop-test, then-loop-test+then-not-sees}

@@ -1,6 +1,7 @@
 use Rattle.std.proofs.Common.{◌-◌}
-use Rattle.ep_syntax.specs.declared.terminal.Terminal.TheVariants as the
-use Rattle.ep_syntax.specs.Reading.{listed, behind_key, is}
+use Rattle.ep_tree.specs.declared.terminal.Terminal.TheVariants as the
+use Rattle.ep_syntax.specs.Reading.{listed, behind_key}
+use Rattle.ep_tree.specs.Terminals.{is}
 use Rattle.ep_syntax.proofs.Loops.{Going}
 use Rattle.ep_syntax.proofs.parse.one_or_more.Given as goal
 

@@ -1,6 +1,6 @@
 use Rattle.ep_lex.specs.Tokens.{spellings}
 use Rattle.ep_syntax.specs.PlanReading.{plan, whole_plan}
-use Rattle.ep_syntax.specs.Grammar.{plans}
+use Rattle.ep_tree.specs.Grammar.{plans}
 use Rattle.ep_syntax.proofs.PlanLaws.{plan_outcome, none_deep}
 use Rattle.ep_syntax.proofs.Whole.{said_read, said_only, said_all_read, said_syntax, said_all_syntax, said_deep}
 use Rattle.ep_syntax.proofs.plan.read_plan_lines.Goals as goal

@@ -1,6 +1,6 @@
 use Rattle.std.proofs.Common.{◌≡◌, drop, map}
 use Rattle.ep_syntax.specs.Printing.{written}
-use Rattle.ep_syntax.specs.Spelling.{behind}
+use Rattle.ep_tree.specs.Spelling.{behind}
 use Rattle.ep_syntax.proofs.print.print_behind.Given as goal
 
 -- what is left makes the whole

@@ -2,8 +2,8 @@ use Rattle.std.proofs.Common.{◌≡◌, ◌<◌, ℕ, false, length, map, rules
 use Rattle.ep_logic.specs.AgentSets.{is_nobody}
 use Rattle.ep_logic.specs.declared.formula.Node.TheVariants as node
 use Rattle.ep_binding.specs.Bindings.{bindings}
-use Rattle.ep_syntax.specs.declared.tree.FormulaTree.TheVariants as tree
-use Rattle.ep_syntax.specs.declared.tree.FormulaTree.TheFolds.{the_lemmas}
+use Rattle.ep_tree.specs.declared.tree.FormulaTree.TheVariants as tree
+use Rattle.ep_tree.specs.declared.tree.FormulaTree.TheFolds.{the_lemmas}
 use Rattle.ep_universe.specs.Objects.{agent_at, group_of, object_at, candidates}
 use Rattle.ep_universe.specs.Atoms.{atom_at}
 use Rattle.ep_universe.specs.Formulas.{ground_of, conjunction, disjunction, instances}

@@ -1,5 +1,5 @@
-use Rattle.ep_syntax.specs.declared.terminal.Terminal.TheVariants as the
-use Rattle.ep_syntax.specs.Spelling.{formula_at}
+use Rattle.ep_tree.specs.declared.terminal.Terminal.TheVariants as the
+use Rattle.ep_tree.specs.Spelling.{formula_at}
 use Rattle.ep_syntax.proofs.PrintedLemmas.{on_ok, behind-next}
 use Rattle.ep_syntax.proofs.PrintedFormulas.{prints-Common, prints-Forall, prints-Exists, prints-Paren, prints-And, prints-Or, Prints-seen, PrintsParts-seen, parameters-seen, printed-parts}
 use Rattle.ep_syntax.proofs.print.formula.+print_formula.Goals as goal

@@ -1,6 +1,6 @@
 use Rattle.std.proofs.Common.{◌≡◌, ℕ, drop, map}
 use Rattle.ep_syntax.specs.Printing.{written}
-use Rattle.ep_syntax.specs.Spelling.{behind, formula_at}
+use Rattle.ep_tree.specs.Spelling.{behind, formula_at}
 use Rattle.ep_syntax.proofs.print.formula.+print_formula.Given as goal
 
 -- what is left makes the whole

@@ -1,6 +1,6 @@
 use Rattle.std.proofs.Common.{◌≡◌, Bool, true, false, Ok, Err, sym, ap, ◌∙◌}
 use Rattle.ep_lex.specs.Tokens.{spellings}
-use Rattle.ep_syntax.specs.Terminals.{is_name}
+use Rattle.ep_tree.specs.Terminals.{is_name}
 use Rattle.ep_syntax.specs.Reading.{Syntax}
 use Rattle.ep_syntax.proofs.Sources.{name-first, name-not, one_on}
 use Rattle.ep_syntax.proofs.reader.Reader.name.Goals as goal

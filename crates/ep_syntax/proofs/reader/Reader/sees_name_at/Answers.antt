@@ -1,6 +1,6 @@
 use Rattle.std.proofs.Common.{sym, ◌∙◌}
 use Rattle.ep_syntax.proofs.Sources.{heads-some}
-use Rattle.ep_syntax.specs.Terminals.{is_name}
+use Rattle.ep_tree.specs.Terminals.{is_name}
 use Rattle.ep_syntax.proofs.reader.Reader.sees_name_at.Goals as goal
 
 pub returns-in-Some : goal.returns-in-Some

@@ -1,4 +1,0 @@
-use Rattle.ep_plan.proofs.tests.outcome.Given as goal
-
-abbrev pub ghosts-ran : goal.ghosts-ran
-ghosts-ran g a = record { name = a.blank.name; parts = a.blank.parts }

@@ -1,0 +1,6 @@
+pub mod Terminals
+pub mod Marks
+pub mod Spelling
+pub mod Formed
+pub mod Bare
+pub mod Grammar

@@ -1,0 +1,12 @@
+//! Trees of tasks, formulas and plan files, and the grammar that spells them.
+#![tactic(auto)]
+
+pub mod terminal;
+pub mod tree;
+
+pub use terminal::{Terminal, is_reserved_word};
+pub use tree::{
+    AtomTree, BodyTree, CallTree, EventTree, FluentTree, FormulaTree, GroupTree, InitTree,
+    LinkTree, Name, ObjectTree, PairTree, PairsTree, ParamTree, PlanTree, SchemaTree, SeesTree,
+    SetTree, TaskTree, TypeTree, WorldTree,
+};

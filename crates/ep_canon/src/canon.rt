@@ -20,9 +20,15 @@ use std::alloc::Global;
 use std::marker::Model;
 
 /// A canonical state of at most 4,096 worlds.
-#[derive(Debug, Drop)]
+#[derive(Debug)]
 pub struct Canon {
     state: State,
+}
+
+impl Drop for Canon {
+    fn drop(self) {
+        let Canon { state: _state } = self;
+    }
 }
 
 impl Model for Canon {

@@ -34,7 +34,7 @@ impl fmt::Display for Counts {
 }
 
 /// What the words are answered. It is shown as the text that goes out.
-#[derive(Debug, Drop)]
+#[derive(Debug)]
 pub enum Answer {
     Refused(Subject, Cause),
     /// The words are those of no command.
@@ -60,6 +60,31 @@ pub enum Answer {
     Bisimilar,
     Different,
     Tried(Trial),
+}
+
+impl Drop for Answer {
+    fn drop(self) {
+        match self {
+            Answer::Refused(_subject, _cause) => {}
+            Answer::OfSearch(_planned) => {}
+            Answer::Tried(_trial) => {}
+            Answer::Checked {
+                counts: _counts,
+                layout: _layout,
+            } => {}
+            Answer::Contraction {
+                state: _state,
+                bytes: _bytes,
+            } => {}
+            Answer::Shown(_text) => {}
+            Answer::Misused | Answer::NoSuchGuide | Answer::Bisimilar | Answer::Different => {}
+            Answer::Unreadable(_) | Answer::Judged(_) | Answer::Stopped(_, _) => {}
+            Answer::TrueAt {
+                count: _,
+                designated: _,
+            } => {}
+        }
+    }
 }
 
 impl Answer {
@@ -109,10 +134,19 @@ impl fmt::Display for Answer {
 }
 
 /// Why the work of a command ends before its end.
-#[derive(Debug, Drop)]
+#[derive(Debug)]
 pub enum Stop {
     Told(Answer),
     OutOfMemory,
+}
+
+impl Drop for Stop {
+    fn drop(self) {
+        match self {
+            Stop::Told(_answer) => {}
+            Stop::OutOfMemory => {}
+        }
+    }
 }
 
 impl From<OutOfMemory> for Stop {

@@ -21,11 +21,21 @@ use std::marker::Model;
 /// source is van Ditmarsch, van der Hoek and Kooi, *Dynamic Epistemic Logic*, chapter 6; several designated events are
 /// after Bolander and Andersen, *Epistemic planning for single- and multi-agent systems* (2011), and the form of
 /// assignments is this project's own.
-#[derive(Debug, Drop)]
+#[derive(Debug)]
 pub struct Action {
     events: List<EventParts>,
     relations: List<List<Numbers>>,
     designated: Numbers,
+}
+
+impl Drop for Action {
+    fn drop(self) {
+        let Action {
+            events: _events,
+            relations: _relations,
+            designated: _designated,
+        } = self;
+    }
 }
 
 impl Model for Action {

@@ -31,13 +31,24 @@ use std::marker::Model;
 
 /// A ground task: the problem that a typed task poses, with the printed names of its agents, atoms and actions. Agents,
 /// atoms and actions are counted from 0.
-#[derive(Drop)]
 pub struct Task {
     typed: Typed,
     agents: List<Text>,
     atoms: List<Text>,
     actions: NameTable,
     problem: Problem,
+}
+
+impl Drop for Task {
+    fn drop(self) {
+        let Task {
+            typed: _typed,
+            agents: _agents,
+            atoms: _atoms,
+            actions: _actions,
+            problem: _problem,
+        } = self;
+    }
 }
 
 impl Model for Task {
@@ -213,12 +224,22 @@ struct Names {
 }
 
 /// What a ground task is made of beside its tree: the printed names of agents, atoms and actions, and the problem.
-#[derive(Drop)]
 pub struct Parts {
     pub agents: List<Text>,
     pub atoms: List<Text>,
     pub actions: NameTable,
     pub problem: Problem,
+}
+
+impl Drop for Parts {
+    fn drop(self) {
+        let Parts {
+            agents: _agents,
+            atoms: _atoms,
+            actions: _actions,
+            problem: _problem,
+        } = self;
+    }
 }
 
 fn names_of_task(alloc: Global, typed: &Typed) -> Result<Names, OutOfMemory>

@@ -16,7 +16,7 @@ use std::marker::Model;
 /// A finite Kripke state, which contracts see as plain data. It has at most 65,536 worlds, 8 agents and 256 atoms, and
 /// fewer than 2^32 links. The source is van Ditmarsch, van der Hoek and Kooi, *Dynamic Epistemic Logic*, chapter 2; a
 /// set of designated worlds, never empty, is this project's own.
-#[derive(Debug, Drop)]
+#[derive(Debug)]
 pub struct State {
     agents: u32,
     atoms: u32,
@@ -24,6 +24,19 @@ pub struct State {
     relations: List<Rows>,
     designated: List<u32>,
     links: u64,
+}
+
+impl Drop for State {
+    fn drop(self) {
+        let State {
+            agents: _agents,
+            atoms: _atoms,
+            truth: _truth,
+            relations: _relations,
+            designated: _designated,
+            links: _links,
+        } = self;
+    }
 }
 
 impl Model for State {

@@ -8,10 +8,18 @@ use std::alloc::Global;
 use std::marker::Model;
 
 /// Texts that differ from each other, which contracts see as their list. A text's place is found by one look-up.
-#[derive(Drop)]
 pub struct NameTable {
     map: IndexMap<Vec<u8>, Text>,
     alloc: Global,
+}
+
+impl Drop for NameTable {
+    fn drop(self) {
+        let NameTable {
+            map: _map,
+            alloc: _alloc,
+        } = self;
+    }
 }
 
 impl Model for NameTable {

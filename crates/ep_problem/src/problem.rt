@@ -15,11 +15,21 @@ pub type Plan = List<ActionId>;
 /// An initial state of at most 256 worlds, at most 1,024 actions and a goal, all among the same agents and atoms.
 /// Contracts see it as the planning task of Bolander and Andersen, *Epistemic planning for single- and multi-agent
 /// systems* (2011).
-#[derive(Debug, Drop)]
+#[derive(Debug)]
 pub struct Problem {
     initial: State,
     actions: List<Action>,
     goal: Formula,
+}
+
+impl Drop for Problem {
+    fn drop(self) {
+        let Problem {
+            initial: _initial,
+            actions: _actions,
+            goal: _goal,
+        } = self;
+    }
 }
 
 impl Model for Problem {

@@ -16,11 +16,20 @@ use std::marker::Model;
 
 /// Canonical states, each once, in the order in which they were stored, each with the least depth at which it was
 /// met. Its keys are the canonical bytes. This project's own.
-#[derive(Drop)]
 pub struct Store {
     limit: u32,
     alloc: Global,
     map: IndexMap<Vec<u8>, Entry>,
+}
+
+impl Drop for Store {
+    fn drop(self) {
+        let Store {
+            limit: _limit,
+            alloc: _alloc,
+            map: _map,
+        } = self;
+    }
 }
 
 impl Model for Store {

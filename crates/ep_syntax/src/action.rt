@@ -9,9 +9,10 @@ use crate::error::SyntaxError;
 use crate::initial::{designated, outer_formula, statement};
 use crate::parse::{Parse, braced_each, each_of, some_of};
 use crate::reader::Reader;
-use ep_tree::Terminal;
-use ep_tree::{AtomTree, BodyTree, EventTree, FormulaTree, ParamTree, SchemaTree, SetTree};
 use ep_base::List;
+use ep_tree::{
+    AtomTree, BodyTree, EventTree, FormulaTree, ParamTree, SchemaTree, SetTree, Terminal,
+};
 use std::alloc::Global;
 
 impl Parse for SetTree {

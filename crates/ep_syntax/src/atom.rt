@@ -9,9 +9,8 @@ ghost use Rattle.ep_tree.specs.Terminals.{is_name};
 use crate::error::SyntaxError;
 use crate::parse::{Parse, one_or_more, zero_or_more};
 use crate::reader::Reader;
-use ep_tree::Terminal;
-use ep_tree::{AtomTree, GroupTree, Name, ParamTree};
 use ep_base::List;
+use ep_tree::{AtomTree, GroupTree, Name, ParamTree, Terminal};
 use std::alloc::Global;
 
 impl Parse for Name {

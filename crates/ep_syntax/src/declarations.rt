@@ -8,9 +8,8 @@ use crate::atom::arguments;
 use crate::error::SyntaxError;
 use crate::parse::{Parse, braced_each, one_or_more};
 use crate::reader::Reader;
-use ep_tree::Terminal;
-use ep_tree::{FluentTree, ObjectTree, TypeTree};
 use ep_base::List;
+use ep_tree::{FluentTree, ObjectTree, Terminal, TypeTree};
 use std::alloc::Global;
 
 impl Parse for TypeTree {

@@ -10,9 +10,8 @@ use crate::atom::{group, params};
 use crate::error::SyntaxError;
 use crate::parse::Parse;
 use crate::reader::Reader;
-use ep_tree::Terminal;
-use ep_tree::{AtomTree, FormulaTree};
 use ep_base::{Boxed, List};
+use ep_tree::{AtomTree, FormulaTree, Terminal};
 use std::alloc::Global;
 
 const STARTERS: [Terminal; 8] = [

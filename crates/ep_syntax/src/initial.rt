@@ -11,11 +11,11 @@ use crate::error::SyntaxError;
 use crate::formula::formula;
 use crate::parse::{Parse, braced_list, each_of, one_or_more, some_of};
 use crate::reader::Reader;
-use ep_tree::Terminal;
-use ep_tree::{
-    AtomTree, FormulaTree, InitTree, LinkTree, Name, PairTree, PairsTree, SeesTree, WorldTree,
-};
 use ep_base::List;
+use ep_tree::{
+    AtomTree, FormulaTree, InitTree, LinkTree, Name, PairTree, PairsTree, SeesTree, Terminal,
+    WorldTree,
+};
 use std::alloc::Global;
 
 const MOST_NESTING: u32 = 64;

@@ -15,12 +15,12 @@ mod printer;
 mod read;
 mod reader;
 
-pub use error::SyntaxError;
-pub use plan::read_plan_lines;
-pub use print::print_task;
-pub use read::{read_formula, read_task};
 pub use ep_tree::{
     AtomTree, BodyTree, CallTree, EventTree, FluentTree, FormulaTree, GroupTree, InitTree,
     LinkTree, Name, ObjectTree, PairTree, PairsTree, ParamTree, PlanTree, SchemaTree, SeesTree,
     SetTree, TaskTree, Terminal, TypeTree, WorldTree,
 };
+pub use error::SyntaxError;
+pub use plan::read_plan_lines;
+pub use print::print_task;
+pub use read::{read_formula, read_task};

@@ -7,8 +7,8 @@ ghost use Rattle.ep_tree.specs.declared.terminal.Terminal.TheVariants as the;
 
 use crate::error::SyntaxError;
 use crate::reader::Reader;
-use ep_tree::Terminal;
 use ep_base::List;
+use ep_tree::Terminal;
 use std::alloc::Global;
 
 /// A value that is read from its first token on.

@@ -13,9 +13,8 @@ use crate::atom::arguments;
 use crate::error::SyntaxError;
 use crate::parse::{Parse, each_of};
 use crate::reader::Reader;
-use ep_tree::Terminal;
-use ep_tree::{CallTree, PlanTree};
 use ep_lex::TokenList;
+use ep_tree::{CallTree, PlanTree, Terminal};
 use std::alloc::Global;
 
 impl Parse for CallTree {

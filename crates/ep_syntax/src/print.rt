@@ -13,8 +13,8 @@ mod schema;
 mod task;
 
 use crate::printer::Printer;
-use ep_tree::Terminal;
 use ep_base::OutOfMemory;
+use ep_tree::Terminal;
 pub use task::print_task;
 
 /// A value whose tokens can be written.

@@ -6,9 +6,8 @@ ghost use Rattle.ep_syntax.specs.Printing as printing;
 ghost use Rattle.ep_syntax.specs.Printing.{gap_behind, write};
 ghost use Rattle.ep_tree.specs.Terminals.{text_of};
 
-use ep_tree::Terminal;
-use ep_tree::Name;
 use ep_base::{OutOfMemory, Text};
+use ep_tree::{Name, Terminal};
 use std::alloc::{AllocError, Global};
 use std::marker::Model;
 

@@ -16,9 +16,8 @@ use crate::error::SyntaxError;
 use crate::initial::{init, outer_formula, statement};
 use crate::parse::each_of;
 use crate::reader::Reader;
-use ep_tree::Terminal;
-use ep_tree::{FormulaTree, TaskTree};
 use ep_lex::TokenList;
+use ep_tree::{FormulaTree, TaskTree, Terminal};
 use std::alloc::Global;
 
 #[tactic(auto, unfolding(crate::specs::FormulaReading::whole_formula))]

@@ -13,10 +13,9 @@ ghost use Rattle.ep_syntax.specs.Reading as reading;
 ghost use Rattle.ep_tree.specs.Terminals as terminals;
 
 use crate::error::SyntaxError;
-use ep_tree::{Terminal, is_reserved_word};
-use ep_tree::Name;
-use ep_lex::{Token, TokenKind, TokenList};
 use ep_base::{OutOfMemory, Text};
+use ep_lex::{Token, TokenKind, TokenList};
+use ep_tree::{Name, Terminal, is_reserved_word};
 use std::alloc::Global;
 use std::marker::Model;
 

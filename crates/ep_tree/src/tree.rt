@@ -11,7 +11,6 @@ pub struct Name {
 }
 
 /// `types` is there where the part is written, even if it is empty.
-#[derive(Drop)]
 pub struct TaskTree {
     pub name: Name,
     pub types: Option<List<TypeTree>>,
@@ -20,6 +19,20 @@ pub struct TaskTree {
     pub init: InitTree,
     pub schemas: List<SchemaTree>,
     pub goal: FormulaTree,
+}
+
+impl Drop for TaskTree {
+    fn drop(self) {
+        let TaskTree {
+            name: _name,
+            types: _types,
+            objects: _objects,
+            fluents: _fluents,
+            init: _init,
+            schemas: _schemas,
+            goal: _goal,
+        } = self;
+    }
 }
 
 #[derive(Drop)]
@@ -86,7 +99,6 @@ pub struct SeesTree {
     pub atoms: List<AtomTree>,
 }
 
-#[derive(Drop)]
 pub enum InitTree {
     Explicit {
         worlds: List<WorldTree>,
@@ -102,6 +114,25 @@ pub enum InitTree {
     },
 }
 
+impl Drop for InitTree {
+    fn drop(self) {
+        match self {
+            InitTree::Explicit {
+                worlds: _worlds,
+                designated: _designated,
+                links: _links,
+            } => {}
+            InitTree::Lawful {
+                vary: _vary,
+                facts: _facts,
+                law: _law,
+                sees: _sees,
+                designated: _designated,
+            } => {}
+        }
+    }
+}
+
 #[derive(Drop)]
 pub struct ParamTree {
     pub name: Name,
@@ -114,14 +145,22 @@ pub struct SetTree {
     pub value: FormulaTree,
 }
 
-#[derive(Drop)]
 pub struct EventTree {
     pub name: Name,
     pub pre: FormulaTree,
     pub sets: List<SetTree>,
 }
 
-#[derive(Drop)]
+impl Drop for EventTree {
+    fn drop(self) {
+        let EventTree {
+            name: _name,
+            pre: _pre,
+            sets: _sets,
+        } = self;
+    }
+}
+
 pub enum BodyTree {
     Announce {
         what: FormulaTree,
@@ -145,13 +184,48 @@ pub enum BodyTree {
     },
 }
 
+impl Drop for BodyTree {
+    fn drop(self) {
+        match self {
+            BodyTree::Announce { what: _what } => {}
+            BodyTree::Private {
+                what: _what,
+                group: _group,
+            } => {}
+            BodyTree::Sense {
+                what: _what,
+                group: _group,
+            } => {}
+            BodyTree::Assign {
+                guard: _guard,
+                sets: _sets,
+            } => {}
+            BodyTree::Events {
+                events: _events,
+                designated: _designated,
+                links: _links,
+            } => {}
+        }
+    }
+}
+
 /// `distinct` is false where there is no parameter.
-#[derive(Drop)]
 pub struct SchemaTree {
     pub name: Name,
     pub params: List<ParamTree>,
     pub distinct: bool,
     pub body: BodyTree,
+}
+
+impl Drop for SchemaTree {
+    fn drop(self) {
+        let SchemaTree {
+            name: _name,
+            params: _params,
+            distinct: _distinct,
+            body: _body,
+        } = self;
+    }
 }
 
 /// `And` and `Or` have at least two parts. `token` is the formula's first token.

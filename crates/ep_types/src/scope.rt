@@ -10,11 +10,20 @@ use ep_base::List;
 use std::alloc::Global;
 
 /// The names that are declared: types with their parents, objects with their types, and fluents with the types of their parameters.
-#[derive(Drop)]
 pub struct Declared {
     pub types: Types,
     pub objects: Table<List<u8>>,
     pub fluents: Table<List<List<u8>>>,
+}
+
+impl Drop for Declared {
+    fn drop(self) {
+        let Declared {
+            types: _types,
+            objects: _objects,
+            fluents: _fluents,
+        } = self;
+    }
 }
 
 /// The parameters in force with their types, and whether knowledge is allowed.

@@ -16,10 +16,18 @@ use std::alloc::Global;
 use std::marker::Model;
 
 /// A task with no fault, which contracts see as its tree.
-#[derive(Drop)]
 pub struct Typed {
     tree: TaskTree,
     names: Declared,
+}
+
+impl Drop for Typed {
+    fn drop(self) {
+        let Typed {
+            tree: _tree,
+            names: _names,
+        } = self;
+    }
 }
 
 impl Model for Typed {

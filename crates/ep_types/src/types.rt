@@ -19,9 +19,14 @@ pub struct TypeRow {
 }
 
 /// Types in order of declaration, which contracts see with their parents.
-#[derive(Drop)]
 pub struct Types {
     rows: Table<TypeRow>,
+}
+
+impl Drop for Types {
+    fn drop(self) {
+        let Types { rows: _rows } = self;
+    }
 }
 
 impl Model for Types {

@@ -6,9 +6,8 @@ ghost use Rattle.ep_tree.specs.Spelling as spell;
 
 use crate::print::{Print, print_between, print_listed};
 use crate::printer::Printer;
-use ep_tree::Terminal;
-use ep_tree::{AtomTree, GroupTree, Name, ParamTree};
 use ep_base::OutOfMemory;
+use ep_tree::{AtomTree, GroupTree, Name, ParamTree, Terminal};
 
 impl Print for Name {
     ghost use Rattle.std.specs.Prelude.{[], ◌∷◌};

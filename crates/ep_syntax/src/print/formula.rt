@@ -8,9 +8,8 @@ ghost use Rattle.ep_tree.specs.declared.terminal.Terminal.TheVariants as the;
 
 use crate::print::{Print, print_between};
 use crate::printer::Printer;
-use ep_tree::Terminal;
-use ep_tree::{FormulaTree, Name, ParamTree};
 use ep_base::OutOfMemory;
+use ep_tree::{FormulaTree, Name, ParamTree, Terminal};
 
 #[tactic(auto, using(crate::proofs::PrintedLemmas::printed))]
 fn print_params(params: &[ParamTree], printer: &mut Printer) -> Result<(), OutOfMemory>

@@ -9,11 +9,11 @@ ghost use Rattle.ep_tree.specs.declared.terminal.Terminal.TheVariants as the;
 
 use crate::print::{Print, print_each, print_listed};
 use crate::printer::Printer;
-use ep_tree::Terminal;
-use ep_tree::{
-    AtomTree, FormulaTree, InitTree, LinkTree, Name, PairTree, PairsTree, SeesTree, WorldTree,
-};
 use ep_base::{List, OutOfMemory};
+use ep_tree::{
+    AtomTree, FormulaTree, InitTree, LinkTree, Name, PairTree, PairsTree, SeesTree, Terminal,
+    WorldTree,
+};
 
 impl Print for PairTree {
     ghost use Rattle.ep_tree.specs.Spelling.{pair};

@@ -9,9 +9,10 @@ ghost use Rattle.ep_tree.specs.declared.terminal.Terminal.TheVariants as the;
 use crate::print::init::{print_relations, print_sentence};
 use crate::print::{Print, print_between, print_block, print_each};
 use crate::printer::Printer;
-use ep_tree::Terminal;
-use ep_tree::{BodyTree, EventTree, FormulaTree, GroupTree, ParamTree, SchemaTree, SetTree};
 use ep_base::OutOfMemory;
+use ep_tree::{
+    BodyTree, EventTree, FormulaTree, GroupTree, ParamTree, SchemaTree, SetTree, Terminal,
+};
 
 impl Print for SetTree {
     ghost use Rattle.ep_tree.specs.Spelling.{set};

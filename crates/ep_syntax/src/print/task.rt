@@ -12,9 +12,8 @@ use crate::print::atom::print_arguments;
 use crate::print::init::print_sentence;
 use crate::print::{Print, print_between, print_block, print_each};
 use crate::printer::Printer;
-use ep_tree::Terminal;
-use ep_tree::{FluentTree, ObjectTree, TaskTree, TypeTree};
 use ep_base::{List, OutOfMemory, Text};
+use ep_tree::{FluentTree, ObjectTree, TaskTree, Terminal, TypeTree};
 use std::alloc::Global;
 
 impl Print for TypeTree {

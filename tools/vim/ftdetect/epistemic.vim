@@ -1,0 +1,2 @@
+autocmd BufRead,BufNewFile *.task set filetype=epistemic
+autocmd BufRead,BufNewFile *.plan set filetype=epistemic

@@ -120,7 +120,9 @@ fn look(rt: &impl Abort, alloc: Global, agents: u32, agent: u32) -> Result<Actio
     assert!(rt; agents <= 8 && agent < agents);
     let group = Agents::none().with(AgentId { n: agent });
     assert!(rt; !group.is_empty() && group.is_within(agents));
-    Ok(Action::sense(alloc, agents, atom(0), group)?)
+    let heads = atom(0);
+    assert!(rt; heads.depth() < 128 && heads.nodes() < 131_072);
+    Ok(Action::sense(alloc, agents, heads, group)?)
 }
 
 // Where an atom is true these are set.

@@ -58,34 +58,46 @@ fn told(answer: &Answer) -> (&'static str, &[ActionId]) {
 }
 
 // A task, the depth, states and worlds of its bounds, the mode, and the answer with the numbers of its actions.
-type Row = (Task, (u32, u32, u32), Mode, &'static str, &'static [u32]);
+type Row = (
+    &'static Task,
+    (u32, u32, u32),
+    Mode,
+    &'static str,
+    &'static [u32],
+);
 
-const BY_DEPTH: [Row; 10] = [
-    (TRUE_AT_ONCE, (0, 1, 1), Mode::Prove, "shortest", &[]),
-    (TRUE_AT_ONCE, (0, 1, 1), Mode::First, "found", &[]),
-    (COIN, (0, 1, 2), Mode::Prove, "none", &[]),
-    (COIN, (8, 1000, 256), Mode::Prove, "shortest", &[0]),
-    (COIN, (8, 1000, 1), Mode::Prove, "wide", &[]),
-    (LOOK, (1000, 2, 256), Mode::Prove, "none", &[]),
-    (LOOK, (1000, 1, 256), Mode::Prove, "many states", &[]),
-    (WAYS, (4, 6, 256), Mode::Prove, "shortest", &[3, 4, 5, 6]),
-    (WAYS, (3, 6, 256), Mode::Prove, "none", &[]),
-    (WAYS, (8, 1000, 256), Mode::First, "found", &[3, 4, 5, 6]),
+static BY_DEPTH: [Row; 10] = [
+    (&TRUE_AT_ONCE, (0, 1, 1), Mode::Prove, "shortest", &[]),
+    (&TRUE_AT_ONCE, (0, 1, 1), Mode::First, "found", &[]),
+    (&COIN, (0, 1, 2), Mode::Prove, "none", &[]),
+    (&COIN, (8, 1000, 256), Mode::Prove, "shortest", &[0]),
+    (&COIN, (8, 1000, 1), Mode::Prove, "wide", &[]),
+    (&LOOK, (1000, 2, 256), Mode::Prove, "none", &[]),
+    (&LOOK, (1000, 1, 256), Mode::Prove, "many states", &[]),
+    (&WAYS, (4, 6, 256), Mode::Prove, "shortest", &[3, 4, 5, 6]),
+    (&WAYS, (3, 6, 256), Mode::Prove, "none", &[]),
+    (&WAYS, (8, 1000, 256), Mode::First, "found", &[3, 4, 5, 6]),
 ];
 
 // A state comes at depth 3 first and at depth 2 later, and a plan is known before a budget ends.
-const DEEPEST_FIRST: [Row; 4] = [
-    (WAYS, (4, 6, 256), Mode::Prove, "shortest", &[3, 4, 5, 6]),
-    (WAYS, (8, 1000, 256), Mode::First, "found", &[0, 1, 2, 5, 6]),
+static DEEPEST_FIRST: [Row; 4] = [
+    (&WAYS, (4, 6, 256), Mode::Prove, "shortest", &[3, 4, 5, 6]),
     (
-        SEVENTH_STATE,
+        &WAYS,
+        (8, 1000, 256),
+        Mode::First,
+        "found",
+        &[0, 1, 2, 5, 6],
+    ),
+    (
+        &SEVENTH_STATE,
         (8, 6, 256),
         Mode::Prove,
         "found",
         &[0, 1, 2, 6, 7],
     ),
     (
-        WIDE_STATE,
+        &WIDE_STATE,
         (8, 1000, 1),
         Mode::Prove,
         "found",
@@ -93,7 +105,7 @@ const DEEPEST_FIRST: [Row; 4] = [
     ),
 ];
 
-const BY_UNMET: [Row; 1] = [(COIN, (8, 1000, 256), Mode::First, "found", &[0])];
+static BY_UNMET: [Row; 1] = [(&COIN, (8, 1000, 256), Mode::First, "found", &[0])];
 
 fn check_answer(rt: &impl Abort, answer: &Answer, kind: &str, wanted: &[u32]) {
     let (found_kind, plan) = told(answer);
@@ -104,20 +116,31 @@ fn check_answer(rt: &impl Abort, answer: &Answer, kind: &str, wanted: &[u32]) {
     );
 }
 
+fn check_row(
+    rt: &impl Abort,
+    alloc: Global,
+    guide: &mut Box<dyn Guide>,
+    row: &Row,
+) -> Result<(), Fail> {
+    let (task, (depth, states, worlds), mode, kind, plan) = row;
+    let bounds = Bounds {
+        depth: *depth,
+        states: *states,
+        worlds: *worlds,
+    };
+    let answer = answer(rt, alloc, task, bounds, *mode, guide)?;
+    check_answer(rt, &answer, kind, plan);
+    Ok(())
+}
+
 fn check(
     rt: &impl Abort,
     alloc: Global,
     guide: &mut Box<dyn Guide>,
     rows: &[Row],
 ) -> Result<(), Fail> {
-    for (task, (depth, states, worlds), mode, kind, plan) in rows {
-        let bounds = Bounds {
-            depth: *depth,
-            states: *states,
-            worlds: *worlds,
-        };
-        let answer = answer(rt, alloc, task, bounds, *mode, guide)?;
-        check_answer(rt, &answer, kind, plan);
+    for row in rows {
+        check_row(rt, alloc, guide, row)?;
     }
     Ok(())
 }

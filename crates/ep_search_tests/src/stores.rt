@@ -1,7 +1,5 @@
 //! The store.
 
-ghost use Rattle.std.specs.Prelude.{◌≤◌};
-
 use crate::states::{Shape, state};
 use ep_canon::{Canon, contract};
 use ep_logic::{ActionId, OutOfMemory, StateId};
@@ -48,7 +46,26 @@ fn canon(rt: &impl Abort, alloc: Global, shape: &Shape) -> Result<Canon, Fail> {
     Ok(contract(alloc, &s)?)
 }
 
-// Adds the first state, or one that an action leads to from an entry.
+fn add_first(rt: &impl Abort, store: &mut Store, canon: Canon) -> Result<Added, StoreError> {
+    assert!(rt; store.len() == 0);
+    store.add(canon, 0, None)
+}
+
+// Adds what an action leads to from an entry.
+fn add_from(
+    rt: &impl Abort,
+    store: &mut Store,
+    canon: Canon,
+    depth: u32,
+    parent: StateId,
+    action: ActionId,
+) -> Result<Added, StoreError> {
+    assert!(rt; parent.n < store.len());
+    assert!(rt; store.depth(parent) < depth);
+    store.add(canon, depth, Some((parent, action)))
+}
+
+// The first state comes from no entry.
 fn add(
     rt: &impl Abort,
     store: &mut Store,
@@ -56,14 +73,13 @@ fn add(
     depth: u32,
     from: Option<(u32, u32)>,
 ) -> Result<Added, StoreError> {
-    let Some((parent, action)) = from else {
-        assert!(rt; store.len() == 0);
-        return store.add(canon, depth, None);
-    };
-    let parent = StateId { n: parent };
-    assert!(rt; parent.n < store.len());
-    assert!(rt; store.depth(parent) < depth);
-    store.add(canon, depth, Some((parent, ActionId { n: action })))
+    match from {
+        None => add_first(rt, store, canon),
+        Some((parent, action)) => {
+            let (parent, action) = (StateId { n: parent }, ActionId { n: action });
+            add_from(rt, store, canon, depth, parent, action)
+        }
+    }
 }
 
 // What became of a state, with the number of its entry, or of its worlds where it came back.
@@ -78,15 +94,25 @@ fn told(answer: &Result<Added, StoreError>) -> (&'static str, u32) {
 }
 
 // A state, its depth, the entry and the action that it comes from, and what becomes of it.
-type Row = (Shape, u32, Option<(u32, u32)>, &'static str, u32);
+type Row = (&'static Shape, u32, Option<(u32, u32)>, &'static str, u32);
+
+fn check_told(rt: &impl Abort, answer: &Result<Added, StoreError>, wanted: &str, number: u32) {
+    let (found, found_number) = told(answer);
+    assert_eq!(rt; found, wanted);
+    assert_eq!(rt; found_number, number, "{wanted}");
+}
+
+fn check_row(rt: &impl Abort, alloc: Global, store: &mut Store, row: &Row) -> Result<(), Fail> {
+    let (shape, depth, from, wanted, number) = row;
+    let canon = canon(rt, alloc, shape)?;
+    let answer = add(rt, store, canon, *depth, *from);
+    check_told(rt, &answer, wanted, *number);
+    Ok(())
+}
 
 fn check(rt: &impl Abort, alloc: Global, store: &mut Store, rows: &[Row]) -> Result<(), Fail> {
-    for (shape, depth, from, wanted, number) in rows {
-        let canon = canon(rt, alloc, shape)?;
-        let answer = add(rt, store, canon, *depth, *from);
-        let (found, found_number) = told(&answer);
-        assert_eq!(rt; found, *wanted);
-        assert_eq!(rt; found_number, *number, "{wanted}");
+    for row in rows {
+        check_row(rt, alloc, store, row)?;
     }
     Ok(())
 }
@@ -103,37 +129,45 @@ fn check_path(rt: &impl Abort, store: &Store, id: u32, wanted: &[u32]) -> Result
     Ok(())
 }
 
+static TWO_STATES: [Row; 3] = [
+    (&TWO, 0, None, "new", 0),
+    (&TWO, 1, Some((0, 7)), "known", 0),
+    (&THREE, 1, Some((0, 7)), "full", 3),
+];
+
 #[test]
 fn a_store_of_one_state_hands_others_back(rt: HostRuntime) -> Result<(), Fail> {
     let mut store = Store::new(rt.alloc(), 1);
-    let rows: [Row; 3] = [
-        (TWO, 0, None, "new", 0),
-        (TWO, 1, Some((0, 7)), "known", 0),
-        (THREE, 1, Some((0, 7)), "full", 3),
-    ];
-    check(&rt, rt.alloc(), &mut store, &rows)?;
+    check(&rt, rt.alloc(), &mut store, &TWO_STATES)?;
     assert_eq!(rt; store.len(), 1);
     Ok(())
 }
 
-// A state at depth 3, which comes at depth 2 later, and another behind it.
+static ONE_WAY: [Row; 5] = [
+    (&ONE, 0, None, "new", 0),
+    (&TWO, 1, Some((0, 1)), "new", 1),
+    (&THREE, 2, Some((1, 2)), "new", 2),
+    (&FOUR, 3, Some((2, 3)), "new", 3),
+    (&FIVE, 4, Some((3, 4)), "new", 4),
+];
+
+// A state of depth 3 comes at depth 2, while another is behind it.
+static SHORTER_WAY: [Row; 1] = [(&FOUR, 2, Some((1, 9)), "better", 3)];
+
+fn check_shortened(rt: &impl Abort, store: &Store) {
+    let id = StateId { n: 3 };
+    assert!(rt; store.len() == 5);
+    assert_eq!(rt; store.depth(id), 2);
+    assert_eq!(rt; store.get(id).state().worlds(), 4);
+}
+
 #[test]
 fn a_shorter_path_takes_the_place_of_a_longer(rt: HostRuntime) -> Result<(), Fail> {
     let mut store = Store::new(rt.alloc(), 10);
-    let rows: [Row; 5] = [
-        (ONE, 0, None, "new", 0),
-        (TWO, 1, Some((0, 1)), "new", 1),
-        (THREE, 2, Some((1, 2)), "new", 2),
-        (FOUR, 3, Some((2, 3)), "new", 3),
-        (FIVE, 4, Some((3, 4)), "new", 4),
-    ];
-    check(&rt, rt.alloc(), &mut store, &rows)?;
+    check(&rt, rt.alloc(), &mut store, &ONE_WAY)?;
     check_path(&rt, &store, 4, &[1, 2, 3, 4])?;
-    let again: [Row; 1] = [(FOUR, 2, Some((1, 9)), "better", 3)];
-    check(&rt, rt.alloc(), &mut store, &again)?;
+    check(&rt, rt.alloc(), &mut store, &SHORTER_WAY)?;
     check_path(&rt, &store, 4, &[1, 9, 4])?;
-    let x = StateId { n: 3 };
-    assert!(rt; store.len() == 5 && store.depth(x) == 2);
-    assert_eq!(rt; store.get(x).state().worlds(), 4);
+    check_shortened(&rt, &store);
     Ok(())
 }

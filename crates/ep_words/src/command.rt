@@ -31,5 +31,5 @@ pub enum Command {
 }
 
 /// The words are those of no command.
-#[derive(Clone, Copy, Debug)]
+#[derive(Clone, Copy)]
 pub struct Usage {}

@@ -3,7 +3,7 @@ ghost use Rattle.ep_guide.specs.Asked.{Rose};
 
 /// What a guide is told of a state: its depth, the numbers of worlds and of designated worlds of its contraction, and
 /// of the goal's parts, how many there are and how many are not true at every designated world.
-#[derive(Clone, Copy, Debug, PartialEq, Eq)]
+#[derive(Clone, Copy)]
 pub struct View {
     pub depth: u32,
     pub worlds: u32,

@@ -12,7 +12,7 @@ fn raised(count: u64) -> u64
 }
 
 /// Scores the depth. Contracts see how often it was asked.
-#[derive(Debug, Drop)]
+#[derive(Drop)]
 pub struct ByDepth {
     asked: u64,
 }
@@ -49,7 +49,7 @@ impl Guide for ByDepth {
 }
 
 /// Scores the number of worlds. Contracts see how often it was asked.
-#[derive(Debug, Drop)]
+#[derive(Drop)]
 pub struct ByWorlds {
     asked: u64,
 }
@@ -87,7 +87,7 @@ impl Guide for ByWorlds {
 
 /// Scores the unmet parts, then the depth, and prefers the first state with fewer unmet parts than any before.
 /// Contracts see how often it was asked and the least number of unmet parts so far.
-#[derive(Debug, Drop)]
+#[derive(Drop)]
 pub struct ByUnmet {
     asked: u64,
     least: u32,

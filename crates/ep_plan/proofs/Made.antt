@@ -25,9 +25,6 @@ pub record HasMade (T : PlanningTask) (p : List ActionId) (size : Size) (n : ℕ
   pub made : (m : ℕ) → m < n → IsMade T p size m
   pub leaves : after T (take n p) ≡ Some S
 
-pub none_made : (T : PlanningTask) (p : List ActionId) (size : Size) → HasMade T p size 0 T.initial
-none_made T p size = record { made = λ m h. absurd (omega (arith, h)); leaves = refl }
-
 module _ (T : PlanningTask) (t : IsPlanningTask T) (p : List ActionId) (size : Size) (n : ℕ) (S : Kripke) (h : HasMade T p size n S) where
   -- what is left is a state with the task's agents and atoms
   pub left_state : IsState S

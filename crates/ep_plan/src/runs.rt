@@ -16,7 +16,7 @@ use std::sync::ledger::Ledger;
 
 /// What a run under a size comes to. A step is counted from 1, and `worlds` and `links` are the exact numbers of the
 /// product that is too large.
-#[derive(Debug, Drop)]
+#[derive(Drop)]
 pub enum Outcome {
     After(State),
     Stuck { step: u32 },

@@ -15,7 +15,6 @@ pub type Plan = List<ActionId>;
 /// An initial state of at most 256 worlds, at most 1,024 actions and a goal, all among the same agents and atoms.
 /// Contracts see it as the planning task of Bolander and Andersen, *Epistemic planning for single- and multi-agent
 /// systems* (2011).
-#[derive(Debug)]
 pub struct Problem {
     initial: State,
     actions: List<Action>,

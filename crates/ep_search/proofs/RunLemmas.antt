@@ -110,8 +110,3 @@ pub best_answer : (T : PlanningTask) (b : Bounds) (p : Progress) (plan : List Ac
 best_answer T b p plan k all empty some =
     let best : (length plan ≡ p.least) × (p.least ≤ b.depth) × Reaches T plan = subst (IsBest T b.depth p.least) some k.best in
     record { short = omega (arith, best.0, best.1); reaches = best.2; least = λ q short r. nothing_waits T b p k all empty (omega (arith, best.1)) q (omega (arith, best.0)) r }
-
-pub found_answer : (T : PlanningTask) (b : Bounds) (p : Progress) (plan : List ActionId) (m : Mode) → Keeps T b p → p.best ≡ Some plan → m ≡ mode.First → IsFound T b.depth b.states b.worlds m plan
-found_answer T b p plan m k some first =
-    let best : (length plan ≡ p.least) × (p.least ≤ b.depth) × Reaches T plan = subst (IsBest T b.depth p.least) some k.best in
-    record { short = omega (arith, best.0, best.1); reaches = best.2; cause = inl first }

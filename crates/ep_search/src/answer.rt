@@ -2,7 +2,7 @@ use ep_problem::Plan;
 
 /// How far a search goes: `depth` is the most actions of a plan, at most 1,000; `states` the most states that are
 /// stored, 1 to 16,384; `worlds` the most worlds of a contracted state, at most 256.
-#[derive(Clone, Copy, Debug, PartialEq, Eq)]
+#[derive(Clone, Copy)]
 pub struct Bounds {
     pub depth: u32,
     pub states: u32,
@@ -10,14 +10,14 @@ pub struct Bounds {
 }
 
 /// Whether a search goes on from the first plan that it meets until that is proved shortest.
-#[derive(Clone, Copy, Debug, PartialEq, Eq)]
+#[derive(Clone, Copy)]
 pub enum Mode {
     Prove,
     First,
 }
 
 /// What a search answers.
-#[derive(Debug, Drop)]
+#[derive(Drop)]
 pub enum Answer {
     /// A plan that reaches the goal, and no shorter one does.
     Shortest(Plan),

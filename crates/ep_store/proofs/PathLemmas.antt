@@ -35,16 +35,8 @@ part_more es to at actions e p a tree part ate from =
       short = omega (arith, length-append actions (a ∷ []), part.short, use_depth es at e ate, use_depth es p.n come.entry come.at, come.holds);
     }
 
-pub part_falls : (es : List Entry) (at : ℕ) (e : Entry) (p : StateId) (a : ActionId) → IsTree es → slice_get es at ≡ Some e → e.from ≡ Some (p, a) → depth_at es p.n < depth_at es at
-part_falls es at e p a tree ate from =
-    let come : Has es p.n (λ f. f.depth < e.depth) = subst (Comes es at e.depth) from (tree at e ate) in
-    omega (arith, use_depth es at e ate, use_depth es p.n come.entry come.at, come.holds)
-
 pub part_end : (es : List Entry) (to at : ℕ) (actions : List ActionId) (e : Entry) → IsPart es to at actions → slice_get es at ≡ Some e → e.from ≡ None → IsPath es to (reverse actions)
 part_end es to at actions e part ate none = part.path [] (start at e ate none)
-
-pub part_start : (es : List Entry) (i : ℕ) → i < length es → IsPart es i i []
-part_start es i lt = record { within = lt; path = λ xs h. subst (IsPath es i) (sym (append-nil xs)) h; short = omega arith }
 
 past : (fs : List Entry) (i : ℕ) → i < length fs → slice_get fs i ≡ None → ⊥
 past [] i h k = absurd (omega arith)

@@ -7,7 +7,7 @@ use ep_canon::Canon;
 use ep_logic::{ActionId, StateId};
 
 /// A state, the depth at which it was met, and the entry and the action that it was made by.
-#[derive(Debug, Drop)]
+#[derive(Drop)]
 pub struct Entry {
     pub canon: Canon,
     pub depth: u32,
@@ -15,7 +15,7 @@ pub struct Entry {
 }
 
 /// The entry that has the state, and what became of it.
-#[derive(Clone, Copy, Debug, PartialEq, Eq)]
+#[derive(Clone, Copy)]
 pub enum Added {
     New(StateId),
     /// It had the state with a greater depth.
@@ -24,7 +24,7 @@ pub enum Added {
 }
 
 /// A state that was not stored.
-#[derive(Debug, Drop)]
+#[derive(Drop)]
 pub enum StoreError {
     /// The store has as many states as it may have, and this is none of them.
     Full(Canon),

@@ -8,6 +8,3 @@ use Rattle.ep_trial.specs.Ascii.{all_ascii}
 pub passes : (bytes : List ℕ) → IsAscii bytes → IsTrue (all_ascii bytes)
 passes [] h = refl
 passes (byte ∷ bytes) h = and_from (nat_lt byte 128) (all_ascii bytes) (lt-ltb byte 128 (h 0)) (passes bytes (λ i. h (suc i)))
-
-pub each_below : (bytes : List ℕ) → IsTrue (all_ascii bytes) → All (λ byte. byte < 128) bytes
-each_below bytes h k d l = ltb-true _ 128 (AllPass-from_list_all (λ byte. nat_lt byte 128) bytes h k d l)

@@ -10,7 +10,7 @@ use crate::command::{Bounds, Command};
 use crate::number::number;
 
 /// An option with its value.
-#[derive(Clone, Copy, Debug, PartialEq, Eq)]
+#[derive(Clone, Copy)]
 pub enum PlanOption {
     Depth(u32),
     States(u32),
@@ -20,7 +20,7 @@ pub enum PlanOption {
 }
 
 /// The options that are given.
-#[derive(Clone, Copy, Debug, PartialEq, Eq)]
+#[derive(Clone, Copy)]
 pub struct Options {
     pub depth: Option<u32>,
     pub states: Option<u32>,

@@ -1,0 +1,11 @@
+//! Tests of words, libraries, sinks and the text of a trial.
+#![tactic(auto)]
+
+#[cfg(test)]
+mod libraries;
+#[cfg(test)]
+mod sinks;
+#[cfg(test)]
+mod trial_texts;
+#[cfg(test)]
+mod words;

@@ -1,0 +1,85 @@
+//! Libraries of named files, in memory and on disk.
+
+use ep_base::{List, Text};
+use ep_io::{DiskLibrary, FetchError, Library, MemoryLibrary};
+use std::alloc::{AllocError, Global};
+use std::fs;
+use std::process::Abort;
+use std::test::Fail;
+
+// A library with the file `coin` of three bytes. Its call 1 fails.
+fn coin(alloc: Global) -> Result<MemoryLibrary, AllocError> {
+    let name = Text::from_vec(vec![in alloc; b'c', b'o', b'i', b'n']?);
+    let bytes = List::from_vec(b"abc".to_vec(alloc)?);
+    let files = List::from_vec(vec![in alloc; (name, bytes)]?);
+    Ok(MemoryLibrary::new(alloc, files, List::from_vec(vec![in alloc; 1]?)))
+}
+
+fn name(answer: Result<(), FetchError>) -> &'static str {
+    match answer {
+        Ok(()) => "ok",
+        Err(FetchError::Missing) => "missing",
+        Err(FetchError::TooLong) => "too long",
+        Err(FetchError::Failed) => "failed",
+        Err(FetchError::OutOfMemory) => "out of memory",
+    }
+}
+
+// A name and a limit, the name of the answer, and what is there after the call.
+type MemoryRow = (&'static str, u32, &'static str, &'static [u8]);
+
+fn check_memory(rt: &impl Abort, files: &mut MemoryLibrary, into: &mut Vec<u8>, row: &MemoryRow) {
+    let (file, limit, answer, bytes) = *row;
+    assert!(rt; limit < 100);
+    let found = name(files.fetch(file, limit, into));
+    assert_eq!(rt; found, answer, "{file} within {limit}");
+    assert_eq!(rt; into.as_slice(), bytes, "{file} within {limit}");
+}
+
+#[test]
+fn a_library_in_memory_answers_each_call(rt: HostRuntime) -> Result<(), Fail> {
+    let mut files = coin(rt.alloc())?;
+    let mut into = b"x".to_vec(rt.alloc())?;
+    let rows: [MemoryRow; 5] = [
+        ("coin", 3, "ok", b"xabc"),
+        ("coin", 3, "failed", b"xabc"),
+        ("coin", 2, "too long", b"xabc"),
+        ("coins", 3, "missing", b"xabc"),
+        ("coin", 3, "ok", b"xabcabc"),
+    ];
+    for row in rows {
+        check_memory(&rt, &mut files, &mut into, &row);
+    }
+    Ok(())
+}
+
+// A name and a limit, the name of the answer, and how many bytes are there after the call.
+type DiskRow = (&'static str, u32, &'static str, usize);
+
+fn check_disk<L: Library>(rt: &impl Abort, files: &mut L, into: &mut Vec<u8>, row: &DiskRow) {
+    let (file, limit, answer, len) = *row;
+    assert!(rt; limit < 20_000);
+    let found = name(files.fetch(file, limit, into));
+    assert_eq!(rt; found, answer, "{file} within {limit}");
+    assert_eq!(rt; into.len(), len, "{file} within {limit}");
+}
+
+#[test]
+fn a_library_on_disk_reads_whole_files(rt: HostRuntime) -> Result<(), Fail> {
+    let long = vec![in rt.alloc(); 7u8; 10_000]?;
+    fs::write(&rt, "ep_io_test", long.as_slice())?;
+    let mut files = DiskLibrary::new(&rt, rt.alloc());
+    let mut into = Vec::new(rt.alloc());
+    let rows: [DiskRow; 4] = [
+        ("ep_io_test", 10_000, "ok", 10_000),
+        ("ep_io_test", 9_999, "too long", 10_000),
+        ("ep_io_none", 10_000, "failed", 10_000),
+        (".", 10_000, "failed", 10_000),
+    ];
+    for row in rows {
+        check_disk(&rt, &mut files, &mut into, &row);
+    }
+    assert_eq!(rt; into, long);
+    fs::remove_file(&rt, "ep_io_test")?;
+    Ok(())
+}

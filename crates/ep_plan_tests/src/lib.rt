@@ -1,0 +1,15 @@
+//! Tests of problems, of runs of plans and of verdicts.
+#![tactic(auto)]
+
+#[cfg(test)]
+mod actions;
+#[cfg(test)]
+mod problems;
+#[cfg(test)]
+mod runs;
+#[cfg(test)]
+mod states;
+#[cfg(test)]
+mod tasks;
+#[cfg(test)]
+mod verdicts;

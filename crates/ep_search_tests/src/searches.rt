@@ -1,0 +1,164 @@
+//! What searches answer.
+
+ghost use Rattle.std.specs.Prelude.{◌≡◌, ◌<◌};
+
+use crate::own_guides::Deepest;
+use crate::tasks::{COIN, LOOK, SEVENTH_STATE, TRUE_AT_ONCE, Task, WAYS, WIDE_STATE, problem};
+use ep_guide::{ByDepth, ByUnmet, Guide};
+use ep_logic::{ActionId, OutOfMemory, Steps};
+use ep_problem::Problem;
+use ep_search::{Answer, Bounds, Mode, search};
+use std::alloc::Global;
+use std::marker::Brand;
+use std::process::Abort;
+use std::sync::ledger::{Blank, Ledger};
+use std::test::Fail;
+
+fn counted<L: Ledger>(
+    rt: &impl Abort,
+    alloc: Global,
+    problem: &Problem,
+    bounds: Bounds,
+    mode: Mode,
+    guide: &mut Box<dyn Guide>,
+    blank: Blank,
+) -> Result<Answer, OutOfMemory>
+    requires name { blank.name ≡ L.name }
+    requires parts { blank.parts ≡ L.parts }
+    requires some { 0 < L.parts }
+{
+    assert!(rt; bounds.depth <= 1000 && bounds.worlds <= 256);
+    assert!(rt; bounds.states >= 1 && bounds.states <= 16_384);
+    let mut steps = Steps::<L>::new(blank);
+    search(alloc, problem, bounds, mode, guide, &mut steps)
+}
+
+pub fn answer(
+    rt: &impl Abort,
+    alloc: Global,
+    task: &Task,
+    bounds: Bounds,
+    mode: Mode,
+    guide: &mut Box<dyn Guide>,
+) -> Result<Answer, Fail> {
+    let problem = problem(rt, alloc, task)?;
+    let found = counted::<Brand>(rt, alloc, &problem, bounds, mode, guide, Blank::new(1))?;
+    Ok(found)
+}
+
+// The kind of the answer, and its plan if it has one.
+fn told(answer: &Answer) -> (&'static str, &[ActionId]) {
+    match answer {
+        Answer::Shortest(plan) => ("shortest", plan.as_slice()),
+        Answer::Found(plan) => ("found", plan.as_slice()),
+        Answer::NoneTo => ("none", &[]),
+        Answer::ManyStates => ("many states", &[]),
+        Answer::Wide(plan) => ("wide", plan.as_slice()),
+    }
+}
+
+// A task, the depth, states and worlds of its bounds, the mode, and the answer with the numbers of its actions.
+type Row = (
+    &'static Task,
+    (u32, u32, u32),
+    Mode,
+    &'static str,
+    &'static [u32],
+);
+
+static BY_DEPTH: [Row; 10] = [
+    (&TRUE_AT_ONCE, (0, 1, 1), Mode::Prove, "shortest", &[]),
+    (&TRUE_AT_ONCE, (0, 1, 1), Mode::First, "found", &[]),
+    (&COIN, (0, 1, 2), Mode::Prove, "none", &[]),
+    (&COIN, (8, 1000, 256), Mode::Prove, "shortest", &[0]),
+    (&COIN, (8, 1000, 1), Mode::Prove, "wide", &[]),
+    (&LOOK, (1000, 2, 256), Mode::Prove, "none", &[]),
+    (&LOOK, (1000, 1, 256), Mode::Prove, "many states", &[]),
+    (&WAYS, (4, 6, 256), Mode::Prove, "shortest", &[3, 4, 5, 6]),
+    (&WAYS, (3, 6, 256), Mode::Prove, "none", &[]),
+    (&WAYS, (8, 1000, 256), Mode::First, "found", &[3, 4, 5, 6]),
+];
+
+// A state comes at depth 3 first and at depth 2 later, and a plan is known before a budget ends.
+static DEEPEST_FIRST: [Row; 4] = [
+    (&WAYS, (4, 6, 256), Mode::Prove, "shortest", &[3, 4, 5, 6]),
+    (
+        &WAYS,
+        (8, 1000, 256),
+        Mode::First,
+        "found",
+        &[0, 1, 2, 5, 6],
+    ),
+    (
+        &SEVENTH_STATE,
+        (8, 6, 256),
+        Mode::Prove,
+        "found",
+        &[0, 1, 2, 6, 7],
+    ),
+    (
+        &WIDE_STATE,
+        (8, 1000, 1),
+        Mode::Prove,
+        "found",
+        &[0, 1, 2, 6, 7],
+    ),
+];
+
+static BY_UNMET: [Row; 1] = [(&COIN, (8, 1000, 256), Mode::First, "found", &[0])];
+
+fn check_answer(rt: &impl Abort, answer: &Answer, kind: &str, wanted: &[u32]) {
+    let (found_kind, plan) = told(answer);
+    assert_eq!(rt; found_kind, kind);
+    assert!(rt;
+        plan.iter().map(|a| a.n).eq(wanted.iter().copied()),
+        "{kind}"
+    );
+}
+
+fn check_row(
+    rt: &impl Abort,
+    alloc: Global,
+    guide: &mut Box<dyn Guide>,
+    row: &Row,
+) -> Result<(), Fail> {
+    let (task, (depth, states, worlds), mode, kind, plan) = row;
+    let bounds = Bounds {
+        depth: *depth,
+        states: *states,
+        worlds: *worlds,
+    };
+    let answer = answer(rt, alloc, task, bounds, *mode, guide)?;
+    check_answer(rt, &answer, kind, plan);
+    Ok(())
+}
+
+fn check(
+    rt: &impl Abort,
+    alloc: Global,
+    guide: &mut Box<dyn Guide>,
+    rows: &[Row],
+) -> Result<(), Fail> {
+    for row in rows {
+        check_row(rt, alloc, guide, row)?;
+    }
+    Ok(())
+}
+
+#[test]
+fn a_search_by_depth_answers_each_task(rt: HostRuntime) -> Result<(), Fail> {
+    let mut guide: Box<dyn Guide> = Box::new(rt.alloc(), ByDepth::new())?;
+    check(&rt, rt.alloc(), &mut guide, &BY_DEPTH)
+}
+
+#[test]
+fn a_search_deepest_first_still_proves_shortest(rt: HostRuntime) -> Result<(), Fail> {
+    let mut guide: Box<dyn Guide> = Box::new(rt.alloc(), Deepest::new())?;
+    check(&rt, rt.alloc(), &mut guide, &DEEPEST_FIRST)
+}
+
+#[test]
+fn a_search_by_unmet_parts_finds_a_plan(rt: HostRuntime) -> Result<(), Fail> {
+    let mut guide: Box<dyn Guide> = Box::new(rt.alloc(), ByUnmet::new())?;
+    check(&rt, rt.alloc(), &mut guide, &BY_UNMET)
+}

@@ -1,0 +1,158 @@
+//! Planning tasks, from tables.
+
+ghost use Rattle.std.specs.Prelude.{◌≤◌};
+
+use crate::actions::{Act, action};
+use crate::states::{Shape, state};
+use ep_event::Action;
+use ep_kripke::State;
+use ep_logic::{AgentId, AtomId, Formula, List};
+use ep_problem::{Problem, actions_fit};
+use ep_truth::fits;
+use std::alloc::Global;
+use std::process::Abort;
+use std::test::Fail;
+
+#[derive(Clone, Copy)]
+pub enum Goal {
+    True,
+    Atom(u32),
+    /// The agent knows atom 0.
+    Known(u32),
+    /// The first agent knows atom 0, and the second does not.
+    KnownApart(u32, u32),
+}
+
+#[derive(Clone, Copy)]
+pub struct Task {
+    shape: Shape,
+    actions: &'static [Act],
+    goal: Goal,
+}
+
+// A coin lies with heads up, and neither of the agents knows it.
+pub const COIN: Task = Task {
+    shape: Shape {
+        agents: 2,
+        atoms: 1,
+        worlds: &[&[0], &[]],
+        links: &[
+            (0, 0, 0),
+            (0, 0, 1),
+            (0, 1, 0),
+            (0, 1, 1),
+            (1, 0, 0),
+            (1, 0, 1),
+            (1, 1, 0),
+            (1, 1, 1),
+        ],
+    },
+    actions: &[Act::Look(0), Act::Look(1), Act::Twice],
+    goal: Goal::KnownApart(0, 1),
+};
+
+// Only one agent can look, and the other is to know.
+pub const LOOK: Task = Task {
+    actions: &[Act::Look(0)],
+    goal: Goal::Known(1),
+    ..COIN
+};
+
+pub const TRUE_AT_ONCE: Task = Task {
+    goal: Goal::True,
+    ..COIN
+};
+
+// Two ways from the start to x: by a1 and a2, and by b1. The atoms are start, a1, a2, b1, x, d and g.
+pub const WAYS: Task = Task {
+    shape: Shape {
+        agents: 1,
+        atoms: 7,
+        worlds: &[&[0]],
+        links: &[(0, 0, 0)],
+    },
+    actions: &[
+        Act::Move(0, 1),
+        Act::Move(1, 2),
+        Act::Move(2, 4),
+        Act::Move(0, 3),
+        Act::Move(3, 4),
+        Act::Move(4, 5),
+        Act::Move(5, 6),
+    ],
+    goal: Goal::Atom(6),
+};
+
+// A further action makes a seventh state from b1.
+pub const SEVENTH_STATE: Task = Task {
+    actions: &[
+        Act::Move(0, 1),
+        Act::Move(1, 2),
+        Act::Move(2, 4),
+        Act::Move(0, 3),
+        Act::Move(3, 4),
+        Act::Also(3, 5),
+        Act::Move(4, 5),
+        Act::Move(5, 6),
+    ],
+    ..WAYS
+};
+
+// A further action makes a state of two worlds from b1.
+pub const WIDE_STATE: Task = Task {
+    actions: &[
+        Act::Move(0, 1),
+        Act::Move(1, 2),
+        Act::Move(2, 4),
+        Act::Move(0, 3),
+        Act::Move(3, 4),
+        Act::Maybe(3, 5),
+        Act::Move(4, 5),
+        Act::Move(5, 6),
+    ],
+    ..WAYS
+};
+
+fn actions(rt: &impl Abort, alloc: Global, task: &Task) -> Result<List<Action>, Fail> {
+    let mut actions = List::new(alloc);
+    for act in task.actions {
+        actions.push(action(rt, alloc, task.shape.agents, *act)?)?;
+    }
+    Ok(actions)
+}
+
+fn known(rt: &impl Abort, alloc: Global, agent: u32) -> Result<Formula, Fail> {
+    assert!(rt; agent < 8);
+    let heads = Formula::atom(AtomId { n: 0 });
+    Ok(Formula::knows(alloc, AgentId { n: agent }, heads)?)
+}
+
+fn known_apart(rt: &impl Abort, alloc: Global, agent: u32, other: u32) -> Result<Formula, Fail> {
+    let mut parts = List::new(alloc);
+    parts.push(known(rt, alloc, agent)?)?;
+    parts.push(Formula::not(alloc, known(rt, alloc, other)?)?)?;
+    assert!(rt; parts.as_slice().len() == 2);
+    Ok(Formula::and(alloc, parts)?)
+}
+
+fn formula(rt: &impl Abort, alloc: Global, goal: Goal) -> Result<Formula, Fail> {
+    match goal {
+        Goal::True => Ok(Formula::truth(true)),
+        Goal::Atom(n) => Ok(Formula::atom(AtomId { n })),
+        Goal::Known(agent) => known(rt, alloc, agent),
+        Goal::KnownApart(agent, other) => known_apart(rt, alloc, agent, other),
+    }
+}
+
+fn posed(rt: &impl Abort, initial: State, actions: List<Action>, goal: Formula) -> Problem {
+    assert!(rt; initial.worlds() <= 256 && actions.as_slice().len() <= 1024);
+    assert!(rt; actions_fit(&initial, actions.as_slice()) && fits(&initial, &goal));
+    Problem::new(initial, actions, goal)
+}
+
+pub fn problem(rt: &impl Abort, alloc: Global, task: &Task) -> Result<Problem, Fail> {
+    let initial = state(rt, alloc, &task.shape)?;
+    let actions = actions(rt, alloc, task)?;
+    let goal = formula(rt, alloc, task.goal)?;
+    Ok(posed(rt, initial, actions, goal))
+}

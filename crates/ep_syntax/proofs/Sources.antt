@@ -1,11 +1,11 @@
 -- The lexemes of a text, and the tokens that they are.
-use Rattle.std.proofs.Common.{◌≡◌, ℕ, zero, suc, ◌+◌, ◌-◌, ◌≤◌, ◌<◌, Bool, true, false, ◌&&◌, ◌||◌, nat_eq, IsTrue, List, [], ◌∷◌, length, take, drop, map, Option, Some, None, Ok, Err, All, refl, sym, ap, ◌∙◌, subst, arith, leb, T, ltb}
+use Rattle.std.proofs.Common.{◌≡◌, ℕ, zero, suc, ◌+◌, ◌-◌, ◌≤◌, ◌<◌, Bool, true, false, ◌&&◌, ◌||◌, nat_eq, IsTrue, List, [], ◌∷◌, length, take, drop, map, Option, Some, None, Ok, Err, All, refl, sym, ap, ◌∙◌, subst, arith, leb, T, ltb, length-drop}
 use Rattle.std.specs.Prelude.{nat_le, slice_get, not, ◌==◌}
 use Rattle.std.specs.List.{list_all}
 use Rattle.std.specs.Option.{option_map}
 use Rattle.std.proofs.lemmas.Bool.{false≢true, leb-true, le-leb}
 use Rattle.std.proofs.lemmas.Bool.Decides.{nat_tests}
-use Rattle.std.proofs.lemmas.List.{drop-drop}
+use Rattle.std.proofs.lemmas.List.{drop-drop, length-map}
 use Rattle.std.proofs.lemmas.Option.{slice_get-map}
 use Rattle.ep_lex.specs.declared.token.Token.{Token as Lexeme}
 use Rattle.ep_lex.specs.declared.token.TokenKind.TheVariants as kind
@@ -124,3 +124,10 @@ read_as a n ts = Ok (a, n, ts)
 pub one_on : {A : Type 0} (a : ℕ → A) (old : Place) (at : ℕ) (tokens : List Token) → (at, drop at tokens) ≡ old
     → read_as (a old.0) (old.0 + 1) (drop 1 old.1) ≡ read_as (a at) (at + 1) (drop (at + 1) tokens)
 one_on a old at tokens e = ap (λ v. read_as (a v.0) (v.0 + 1) (drop 1 v.1)) (sym e) ∙ ap (read_as (a at) (at + 1)) (drop-drop 1 at tokens)
+
+-- how many tokens stand from a place on
+pub left-length : (old : Place) (at count : ℕ) (bytes : List ℕ) (lexemes : List Lexeme) → (at, drop at (spellings bytes lexemes)) ≡ old
+    → count ≡ length lexemes → count - at ≡ length old.1
+left-length old at count bytes lexemes e c =
+    ap (λ n. n - at) (c ∙ sym (length-map lexemes (spelling bytes))) ∙ sym (length-drop at (spellings bytes lexemes))
+    ∙ ap (λ v. length v.1) e

@@ -1,12 +1,12 @@
 -- What bytes tell is a state.
-use Rattle.std.proofs.Common.{◌≡◌, ◌≢◌, ℕ, zero, suc, ◌+◌, ◌*◌, ◌<◌, ◌≤◌, ◌==◌, Bool, true, false, cond, List, [], ◌∷◌, ◌++◌, length, set, take, map, sum_by, refl, sym, ap, ap₂, subst, ◌∙◌, arith, IsTrue}
+use Rattle.std.proofs.Common.{◌≡◌, ◌≢◌, ℕ, zero, suc, ◌+◌, ◌*◌, ◌<◌, ◌≤◌, ◌==◌, Bool, true, false, cond, List, [], ◌∷◌, ◌++◌, length, map, sum_by, refl, sym, ap, subst, ◌∙◌, arith, IsTrue}
 use Rattle.std.specs.List.{AllByRecursion}
 use Rattle.std.proofs.lemmas.Bool.{false≢true, eq-eqb}
-use Rattle.std.proofs.lemmas.List.{length-append, length-map, append-nil, take_more_set}
+use Rattle.std.proofs.lemmas.List.{length-append, length-map}
 use Rattle.std.proofs.lemmas.List.Sums.{sum_by-cons}
 use Rattle.std.proofs.lemmas.Nat.{mul-le}
 use Rattle.ep_theory.specs.Rising.{IsRising}
-use Rattle.ep_theory.specs.Numbers.{numbers_where, pairs_within, pairs_where, has_number, table}
+use Rattle.ep_theory.specs.Numbers.{numbers_where, pairs_within, pairs_where, has_number}
 use Rattle.ep_theory.specs.Kripke.{IsState, pair_cmp, links_of, successors}
 use Rattle.ep_theory.proofs.Filters.{All-map}
 use Rattle.ep_theory.proofs.Lists.{All-from_each, from_successors, IsIn-successors}
@@ -16,7 +16,6 @@ use Rattle.ep_kripke.specs.States.{IsBounded, HaveRows}
 use Rattle.ep_kripke.proofs.RowsLemmas.{get_or-pairs, row_pairs-chosen}
 use Rattle.ep_canon.specs.declared.reading.Sizes.{Sizes}
 use Rattle.ep_canon.specs.Bytes.{row_size}
-use Rattle.ep_canon.proofs.WritingLemmas.{table_more}
 use Rattle.ep_canon.specs.Reading.{AreSmall, bit_from, agent_size, links_begin, designated_begin, told_row, told_truth, told_numbers, told_rows, told_relations, told_designated, told}
 
 -- how many there are
@@ -127,18 +126,8 @@ not_empty xs ys len long some is e =
     false≢true (some ∙ eq-eqb len 0 (long ∙ none))
 
 -- loops
-pub row_next : (f : ℕ → Bool) (xs ys : List Bool) (i n : ℕ) (v : Bool) → length xs ≡ n → i < n → take i xs ≡ table f i → v ≡ f i → ys ≡ set xs i v → take (i + 1) ys ≡ table f (i + 1)
-row_next f xs ys i n v long l h e is =
-    ap (take (i + 1)) is ∙ take_more_set xs i v (omega arith) ∙ ap₂ (λ zs z. zs ++ z ∷ []) h e ∙ sym (table_more f i (i + 1) refl)
-
 pub numbers_next : (p : ℕ → Bool) (i : ℕ) → numbers_where p (i + 1) ≡ numbers_where p i ++ cond (p i) (i ∷ []) []
 numbers_next p i = ap (numbers_where p) (let one : i + 1 ≡ suc i = omega arith in one)
-
-pub numbers_taken : (p : ℕ → Bool) (i : ℕ) (b : Bool) → b ≡ p i → b ≡ true → numbers_where p (i + 1) ≡ numbers_where p i ++ i ∷ []
-numbers_taken p i b e t = numbers_next p i ∙ ap (λ c. numbers_where p i ++ cond c (i ∷ []) []) (sym e ∙ t)
-
-pub numbers_left : (p : ℕ → Bool) (i : ℕ) (b : Bool) → b ≡ p i → b ≡ false → numbers_where p (i + 1) ≡ numbers_where p i
-numbers_left p i b e t = numbers_next p i ∙ ap (λ c. numbers_where p i ++ cond c (i ∷ []) []) (sym e ∙ t) ∙ append-nil (numbers_where p i)
 
 -- a row lies within the rows
 pub row_inside : (w n size : ℕ) → w < n → w * size + size ≤ n * size

@@ -10,12 +10,6 @@ use Rattle.ep_theory.proofs.NumbersLemmas.{length-table, get_or-table}
 use Rattle.ep_theory.proofs.Unique.{same_places}
 use Rattle.ep_canon.specs.Bytes.{members}
 
--- one more piece
-pub piece_more : {X : Type 0} (f : X → List ℕ) (start before after piece : List ℕ) (xs : List X) (i : ℕ) (d : X) → i < length xs →
-    before ≡ start ++ flat_map f (take i xs) → piece ≡ f (get_or xs i d) → after ≡ before ++ piece → after ≡ start ++ flat_map f (take (i + 1) xs)
-piece_more f start before after piece xs i d l h p e =
-    e ∙ ap₂ (λ x y. x ++ y) h p ∙ flat_map_more f start (take i xs) (get_or xs i d) ∙ ap (λ ys. start ++ flat_map f ys) (sym (take_more xs i d l))
-
 pub table_more : {X : Type 0} (f : ℕ → X) (n m : ℕ) → m ≡ n + 1 → table f m ≡ table f n ++ f n ∷ []
 table_more f n m e = ap (table f) (e ∙ (let one : n + 1 ≡ suc n = omega arith in one))
 

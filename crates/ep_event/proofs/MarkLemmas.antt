@@ -39,9 +39,6 @@ marks_skip n a links l square miss are = record {
 }
 
 -- the truth values of a square with one more
-marked_square : List (List Bool) → ℕ → ℕ → List (List Bool)
-marked_square square i j = set square i (set (get_or square i []) j true)
-
 pub marks_add : (n a : ℕ) (links : List EventLink) (l : EventLink) (square : List (List Bool)) → (l.agent.n == a) ≡ true → l.from.n < n → l.to.n < n → AreMarks n (has_link links a) square →
     AreMarks n (has_link (links ++ l ∷ []) a) (set square l.from.n (set (get_or square l.from.n []) l.to.n true))
 marks_add n a links l square hit from to are =

@@ -1,5 +1,5 @@
 -- The state of the chosen worlds.
-use Rattle.std.proofs.Common.{◌≡◌, ◌≢◌, ℕ, zero, suc, ◌<◌, ◌≤◌, ◌+◌, ◌*◌, ◌^◌, ◌==◌, Bool, true, false, cond, List, [], ◌∷◌, ◌++◌, length, get_or, map, filter, take, sum_by, slice_index, refl, sym, ap, ap₂, subst, ◌∙◌, arith, Less, ◌⊎◌, ⊎_elim, inl, inr, All, IsTrue}
+use Rattle.std.proofs.Common.{◌≡◌, ℕ, suc, ◌<◌, ◌≤◌, ◌+◌, ◌==◌, Bool, true, false, cond, List, [], ◌∷◌, ◌++◌, length, get_or, map, filter, take, sum_by, refl, sym, ap, ap₂, subst, ◌∙◌, arith, ◌⊎◌, ⊎_elim, IsTrue}
 use Rattle.std.specs.Ordering.{nat_cmp}
 use Rattle.std.specs.List.{AllByRecursion}
 use Rattle.std.proofs.Math.ListN.{get_or-eq_default}
@@ -7,10 +7,9 @@ use Rattle.std.proofs.lemmas.List.{length-map, get_or-map, take_more, map-append
 use Rattle.std.proofs.lemmas.List.Sums.{sum_by-cons}
 use Rattle.ep_theory.specs.Rising.{IsIn, IsRising}
 use Rattle.ep_theory.specs.Kripke.{Kripke, IsState, pair_cmp, links_of, successors, truth_of}
-use Rattle.ep_theory.specs.Fits.{link_count}
 use Rattle.ep_theory.specs.Image.{IsImage}
 use Rattle.ep_theory.proofs.Exists.{not_empty}
-use Rattle.ep_theory.proofs.Filters.{IsIn-filter, from_filter, All-map, All-at, IsIn-at}
+use Rattle.ep_theory.proofs.Filters.{IsIn-filter, from_filter, All-map, All-at}
 use Rattle.ep_theory.proofs.Lists.{at_All, All-from_each, IsIn-map, from_map, IsIn-rising, from_rising, IsRising-rising, from_successors, IsIn-successors, equal_from_test}
 use Rattle.ep_theory.proofs.Unique.{numbers, links_within}
 use Rattle.ep_kripke.specs.Rows.{all_pairs}

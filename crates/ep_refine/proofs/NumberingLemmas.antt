@@ -1,8 +1,7 @@
 -- Numbers by place in a sorted list.
-use Rattle.std.proofs.Common.{◌≡◌, ℕ, zero, suc, ◌<◌, ◌≤◌, ◌+◌, ◌-◌, ◌↔◌, Bool, true, false, List, [], ◌∷◌, ◌++◌, length, get_or, refl, sym, ap, ap₂, subst, ◌∙◌, arith, Ordering, Less, Equal, Greater, ◌⊎◌, inl, inr, ⊎_elim, length-append}
-use Rattle.std.specs.Ordering.{nat_cmp, is_lt, ordering_then, ordering_reverse}
+use Rattle.std.proofs.Common.{◌≡◌, ℕ, suc, ◌<◌, ◌≤◌, ◌+◌, ◌-◌, List, [], ◌∷◌, ◌++◌, length, get_or, sym, ap, ap₂, subst, ◌∙◌, arith, Ordering, Less, Equal, ◌⊎◌, inl, inr, ⊎_elim, length-append}
+use Rattle.std.specs.Ordering.{nat_cmp, ordering_reverse}
 use Rattle.std.specs.Cmp.{IsTotalOrder, nat_cmp_is, nat_cmp_total}
-use Rattle.std.specs.List.Sorted.{IsSorted}
 use Rattle.std.proofs.Math.ListN.{get_or-append}
 use Rattle.std.proofs.Math.Seq.{get_or-append_seam}
 use Rattle.std.proofs.lemmas.Cmp.{tied_itself, alike_right}
@@ -19,15 +18,6 @@ pub record NumbersFirst {X : Type 0} (C : X → X → Ordering) (xs : List X) (n
   pub last : 0 < i → get_or numbers (i - 1) 0 + 1 ≡ count
   pub few : count ≤ i
   pub ordered : (j k : ℕ) (d : X) → j < i → k < i → nat_cmp (get_or numbers j 0) (get_or numbers k 0) ≡ C (get_or xs j d) (get_or xs k d)
-
-pub numbers_none : {X : Type 0} (C : X → X → Ordering) (xs : List X) → NumbersFirst C xs [] 0 0
-numbers_none C xs = record {
-  one_each = refl;
-  used = λ c. (λ i. absurd i, λ l. absurd (omega arith));
-  last = λ l. absurd (omega arith);
-  few = omega arith;
-  ordered = λ j k d a b. absurd (omega arith);
-}
 
 -- the new item is level with the one before, or above it and all others
 module _ {X : Type 0} (C : X → X → Ordering) (total : IsTotalOrder C) (xs : List X) (numbers : List ℕ) (count i : ℕ) (h : NumbersFirst C xs numbers count i) (new : ℕ)

@@ -1,5 +1,5 @@
 -- Numbers written back from the places of a sorted list to the worlds.
-use Rattle.std.proofs.Common.{◌≡◌, ◌≢◌, ℕ, zero, suc, ◌<◌, ◌+◌, ◌↔◌, List, [], ◌∷◌, ◌++◌, length, get_or, set, map, All, refl, sym, ap, ap₂, subst, ◌∙◌, arith, Ordering, ⊎_elim, eqb, nat_eq, IsPermutation}
+use Rattle.std.proofs.Common.{◌≡◌, ◌≢◌, ℕ, zero, suc, ◌<◌, ◌+◌, List, [], ◌∷◌, ◌++◌, length, get_or, set, map, All, refl, sym, ap, ap₂, subst, ◌∙◌, arith, Ordering, ⊎_elim, nat_eq, IsPermutation}
 use Rattle.std.specs.Ordering.{nat_cmp}
 use Rattle.std.specs.List.{range_with_len, IsDistinct}
 use Rattle.std.proofs.lemmas.Bool.Decides.{Decides-eqb}
@@ -10,7 +10,7 @@ use Rattle.std.proofs.lemmas.Map.Keys.{IsDistinct-IsPermutation}
 use Rattle.std.proofs.lemmas.Map.Made.{AllPairs-from_IsDistinct, IsDistinct-from_AllPairs}
 use Rattle.std.proofs.lemmas.Cmp.{nat_eq_equiv}
 use Rattle.ep_theory.specs.Rising.{IsIn}
-use Rattle.ep_theory.proofs.Bridges.{Contains-from_in, in_from_Contains}
+use Rattle.ep_theory.proofs.Bridges.{Contains-from_in}
 use Rattle.ep_theory.proofs.Counting.{last_or_before}
 use Rattle.ep_theory.proofs.Filters.{IsIn-at}
 use Rattle.ep_theory.proofs.Unique.{same_places}

@@ -1,5 +1,5 @@
 -- The search for the reached worlds.
-use Rattle.std.proofs.Common.{◌≡◌, ℕ, zero, suc, ◌<◌, ◌≤◌, ◌+◌, ◌⊎◌, inl, inr, ⊎_elim, Bool, true, false, List, [], ◌∷◌, ◌++◌, length, get_or, refl, sym, ap, subst, ◌∙◌, arith, IsTrue, All, ◌↔◌, replicate}
+use Rattle.std.proofs.Common.{◌≡◌, ℕ, zero, suc, ◌<◌, ◌≤◌, ◌+◌, ◌⊎◌, inl, inr, ⊎_elim, Bool, false, List, [], ◌∷◌, ◌++◌, length, get_or, refl, sym, ap, subst, ◌∙◌, arith, IsTrue, All, ◌↔◌, replicate}
 use Rattle.std.proofs.Math.ListN.{get_or-eq_default, length-replicate}
 use Rattle.std.proofs.lemmas.Bool.{false≢true}
 use Rattle.ep_theory.specs.Rising.{IsIn}
@@ -10,7 +10,7 @@ use Rattle.ep_theory.proofs.Counting.{last_or_before}
 use Rattle.ep_theory.proofs.Filters.{IsIn-at}
 use Rattle.ep_theory.proofs.Lists.{at_All, from_successors, IsIn-successors}
 use Rattle.ep_theory.proofs.Unique.{links_within}
-use Rattle.ep_refine.specs.Marking.{is_marked, unmarked, Marks, IsTarget}
+use Rattle.ep_refine.specs.Marking.{is_marked, Marks, IsTarget}
 use Rattle.ep_refine.proofs.MarkingLemmas.{marks_none, marks_both, marks_same}
 
 -- one of the first i agents links w to the world

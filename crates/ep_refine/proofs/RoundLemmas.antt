@@ -1,6 +1,6 @@
 -- Rounds of numbering the worlds.
-use Rattle.std.proofs.Common.{◌≡◌, ℕ, zero, suc, ◌<◌, ◌≤◌, ◌+◌, ◌↔◌, Bool, List, [], ◌∷◌, length, get_or, map, slice_index, refl, sym, ap, ap₂, subst, ◌∙◌, arith, Ordering, Vec, Global}
-use Rattle.std.specs.Ordering.{nat_cmp, bool_cmp, ordering_then}
+use Rattle.std.proofs.Common.{◌≡◌, ℕ, suc, ◌<◌, ◌≤◌, ◌+◌, Bool, List, [], length, get_or, map, slice_index, sym, ap, ap₂, subst, ◌∙◌, arith, Ordering}
+use Rattle.std.specs.Ordering.{nat_cmp, bool_cmp}
 use Rattle.std.specs.List.{range_with_len}
 use Rattle.std.specs.Cmp.Lexicographic.{slice_cmp}
 use Rattle.std.proofs.lemmas.List.{get_or-map, length-map}
@@ -9,7 +9,6 @@ use Rattle.ep_theory.specs.Kripke.{Kripke, IsState, truth_of}
 use Rattle.ep_theory.specs.Kind.{KindNode, node_cmp}
 use Rattle.ep_theory.specs.Ranks.{RanksAt, signature}
 use Rattle.ep_theory.proofs.Ranked.{signatures}
-use Rattle.ep_theory.proofs.Later.{settled_later}
 use Rattle.ep_theory.proofs.Rounds.{stop, ranks_later}
 use Rattle.ep_refine.specs.Numbering.{OrdersAs}
 use Rattle.ep_refine.proofs.PlacesLemmas.{some_item}

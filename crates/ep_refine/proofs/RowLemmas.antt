@@ -1,18 +1,17 @@
 -- Rows of rising numbers and their pairs.
-use Rattle.std.proofs.Common.{◌≡◌, ◌≢◌, ℕ, zero, suc, ◌<◌, ◌≤◌, ◌+◌, ◌==◌, Bool, true, false, cond, List, [], ◌∷◌, ◌++◌, length, get_or, map, filter, refl, sym, ap, ap₂, subst, ◌∙◌, arith, Ordering, Less, Equal, Greater, ⊎_elim, inl, inr, length-append, IsTrue}
+use Rattle.std.proofs.Common.{◌≡◌, ℕ, zero, suc, ◌<◌, ◌≤◌, List, [], ◌∷◌, length, get_or, map, sym, ap, subst, ◌∙◌, arith, Ordering, Less, Equal, Greater, ⊎_elim}
 use Rattle.std.specs.Ordering.{nat_cmp, ordering_then}
 use Rattle.std.specs.Cmp.{nat_cmp_is, nat_cmp_total}
 use Rattle.std.specs.List.{AllByRecursion}
 use Rattle.std.proofs.lemmas.Cmp.{tied_itself}
-use Rattle.std.proofs.lemmas.List.{length-map}
 use Rattle.ep_theory.specs.Rising.{IsIn, IsRising, placed, rising, by_order}
-use Rattle.ep_theory.specs.Kripke.{pair_cmp, successors}
+use Rattle.ep_theory.specs.Kripke.{pair_cmp}
 use Rattle.ep_theory.proofs.Bools.{in_left, in_right, in_parts}
 use Rattle.ep_theory.proofs.Counting.{last_or_before}
 use Rattle.ep_theory.proofs.Filters.{All-map, All-at}
-use Rattle.ep_theory.proofs.Lists.{at_All, All-from_each, IsIn-map, from_map}
+use Rattle.ep_theory.proofs.Lists.{at_All, IsIn-map, from_map}
 use Rattle.ep_theory.proofs.NumbersLemmas.{IsRising-append}
-use Rattle.ep_kripke.specs.Rows.{row_pairs, all_pairs}
+use Rattle.ep_kripke.specs.Rows.{row_pairs}
 
 -- a pair of the first m rows
 pub from_row_pairs : (rows : List (List ℕ)) (m c d : ℕ) → IsIn (c, d) (row_pairs rows m) → (c < m) × IsIn d (get_or rows c [])

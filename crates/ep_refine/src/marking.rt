@@ -8,14 +8,14 @@ use ep_kripke::State;
 use ep_logic::{AgentId, Bits, OutOfMemory, WorldId};
 
 /// Marks the worlds, and opens those that were not marked.
-pub fn mark(marked: &mut Bits, open: &mut Vec<u32>, worlds: &[u32]) -> Result<(), OutOfMemory>
+pub fn mark(marked: &mut Bits, waiting: &mut Vec<u32>, worlds: &[u32]) -> Result<(), OutOfMemory>
     requires { All (λ w. w < length marked.old) worlds.now }
-    ensures { OnOk result (Marks (λ v. IsIn v worlds.now) marked.old marked.new open.old.items open.new.items) }
+    ensures { OnOk result (Marks (λ v. IsIn v worlds.now) marked.old marked.new waiting.old.items waiting.new.items) }
 {
     for w in worlds {
         if !marked.get(*w) {
             marked.set(*w, true);
-            open.push(*w)?;
+            waiting.push(*w)?;
         }
     }
     Ok(())
@@ -26,14 +26,14 @@ pub fn mark_targets(
     s: &State,
     w: WorldId,
     marked: &mut Bits,
-    open: &mut Vec<u32>,
+    waiting: &mut Vec<u32>,
 ) -> Result<(), OutOfMemory>
     requires world { w.n < s.now.worlds }
     requires one_each { length marked.old ≡ s.now.worlds }
-    ensures { OnOk result (Marks (IsTarget s.now w.n) marked.old marked.new open.old.items open.new.items) }
+    ensures { OnOk result (Marks (IsTarget s.now w.n) marked.old marked.new waiting.old.items waiting.new.items) }
 {
     for a in 0..s.agents() {
-        mark(marked, open, s.targets(AgentId { n: a }, w))?;
+        mark(marked, waiting, s.targets(AgentId { n: a }, w))?;
     }
     Ok(())
 }

@@ -18,10 +18,10 @@ pub fn reachable(alloc: Global, s: &State) -> Result<Bits, OutOfMemory>
     ensures valid { IsState s.now }
 {
     let mut marked = Bits::zeros(alloc, s.worlds())?;
-    let mut open = Vec::new(alloc);
-    mark(&mut marked, &mut open, s.designated())?;
-    while let Some(w) = open.pop() {
-        mark_targets(s, WorldId { n: w }, &mut marked, &mut open)?;
+    let mut waiting = Vec::new(alloc);
+    mark(&mut marked, &mut waiting, s.designated())?;
+    while let Some(w) = waiting.pop() {
+        mark_targets(s, WorldId { n: w }, &mut marked, &mut waiting)?;
     }
     Ok(marked)
 }

@@ -1,6 +1,6 @@
 -- Links of a group backwards, and the worlds from which every walk stays in a row.
-use Rattle.std.proofs.Common.{◌≡◌, ℕ, zero, suc, ◌+◌, ◌*◌, ◌<◌, ◌≤◌, ◌^◌, Bool, true, false, not, nat_lt, ◌==◌, cond, ◌⊎◌, inl, inr, ◌↔◌, List, [], ◌∷◌, ◌++◌, length, get_or, set, take, drop, filter, sum_by, replicate, Some, IsTrue, All, refl, ap, ◌∙◌, sym, subst, arith}
-use Rattle.std.proofs.lemmas.List.{length-set, get_or-set_same, get_or-set_other, take_more, length-replicate, get_or-replicate, length-map}
+use Rattle.std.proofs.Common.{◌≡◌, ℕ, zero, suc, ◌+◌, ◌*◌, ◌<◌, ◌≤◌, Bool, true, false, not, nat_lt, ◌==◌, cond, ◌⊎◌, inl, inr, ◌↔◌, List, [], ◌∷◌, ◌++◌, length, take, drop, filter, sum_by, replicate, IsTrue, refl, ap, ◌∙◌, sym, subst, arith}
+use Rattle.std.proofs.lemmas.List.{length-set, get_or-set_same, get_or-set_other, take_more, length-replicate, length-map}
 use Rattle.std.proofs.lemmas.List.Sums.{sum_by-append, sum_by-take-le}
 use Rattle.std.proofs.lemmas.List.Folds.{sum_by-replicate}
 use Rattle.std.proofs.lemmas.Bool.Decides.{eqb_tells, nat_tests}
@@ -10,10 +10,9 @@ use Rattle.ep_theory.specs.Kripke.{Kripke, IsState, links_of, successors}
 use Rattle.ep_theory.specs.Walks.{IsStep, IsWalk, last_of}
 use Rattle.ep_theory.specs.Numbers.{numbers_where}
 use Rattle.ep_theory.specs.Fits.{link_count}
-use Rattle.ep_theory.proofs.Bools.{decided, in_left, in_right, in_parts, not_true, from_not}
+use Rattle.ep_theory.proofs.Bools.{decided, in_left, in_right, in_parts}
 use Rattle.ep_theory.proofs.Counting.{last_or_before}
 use Rattle.ep_theory.proofs.Lists.{from_successors, IsIn-successors}
-use Rattle.ep_theory.proofs.Filters.{IsIn-at}
 use Rattle.ep_theory.proofs.NumbersLemmas.{in_numbers, from_numbers}
 use Rattle.ep_theory.proofs.Unique.{links_within}
 use Rattle.ep_truth.specs.Labels.{value_at}

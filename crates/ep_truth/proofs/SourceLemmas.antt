@@ -1,12 +1,12 @@
 -- Chains of links backwards.
-use Rattle.std.proofs.Common.{◌≡◌, ℕ, zero, suc, ◌+◌, ◌<◌, ◌≤◌, List, [], ◌∷◌, ◌++◌, length, get_or, set, drop, map, sum_by, replicate, add-one, refl, ap, ap₂, ◌∙◌, sym, subst, arith, ◌⊎◌, inl, inr}
-use Rattle.std.proofs.lemmas.List.{length-set, get_or_default, map-set, get_or-map, get_or_append_left, get_or-set_same, get_or-set_other, length-map}
+use Rattle.std.proofs.Common.{◌≡◌, ℕ, zero, suc, ◌+◌, ◌<◌, ◌≤◌, List, [], ◌∷◌, ◌++◌, length, get_or, set, map, sum_by, replicate, refl, ap, ap₂, ◌∙◌, sym, subst, arith, ◌⊎◌, inl, inr}
+use Rattle.std.proofs.lemmas.List.{get_or_default, map-set, get_or-map, get_or_append_left, get_or-set_same, get_or-set_other, length-map}
 use Rattle.std.proofs.lemmas.List.Folds.{sum_by-replicate}
 use Rattle.std.proofs.lemmas.Bool.Decides.{eqb_tells}
 use Rattle.std.proofs.lemmas.List.Sums.{sum_by-set}
-use Rattle.std.proofs.Math.Seq.{get_or-append_seam, drop-cons}
+use Rattle.std.proofs.Math.Seq.{get_or-append_seam}
 use Rattle.ep_truth.specs.declared.sources.BackLink.{BackLink}
-use Rattle.ep_truth.specs.Sources.{no_link, chain_within, chain, chains, IsChained, row_at, with_source, with_sources}
+use Rattle.ep_truth.specs.Sources.{no_link, chain_within, chain, chains, IsChained, row_at, with_source}
 
 -- each link names an earlier place
 abbrev IsBack : List BackLink → Type 0

@@ -1,6 +1,5 @@
 -- The worlds from which every walk of a group stays in a row.
-use Rattle.std.specs.Prelude.{◌≡◌, ℕ, ◌+◌, ◌<◌, ◌↔◌, ◌⊎◌, Bool, not, List, [], ◌∷◌, IsTrue, if◌then◌else◌}
-use Rattle.ep_logic.specs.AgentSets.{Has}
+use Rattle.std.specs.Prelude.{ℕ, ◌<◌, ◌↔◌, ◌⊎◌, Bool, not, List, IsTrue}
 use Rattle.ep_theory.specs.Rising.{IsIn}
 use Rattle.ep_theory.specs.Kripke.{Kripke, links_of}
 use Rattle.ep_theory.specs.Walks.{IsStep, IsWalk, last_of}

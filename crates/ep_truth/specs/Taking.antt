@@ -1,5 +1,5 @@
 -- Worlds that are taken out of a row of truth values.
-use Rattle.std.specs.Prelude.{ℕ, Bool, false, List, [], ◌∷◌, ◌++◌, slice_set, if◌then◌else◌}
+use Rattle.std.specs.Prelude.{ℕ, Bool, false, List, [], ◌∷◌, slice_set, if◌then◌else◌}
 use Rattle.ep_truth.specs.Labels.{value_at}
 
 -- the row, false at these places

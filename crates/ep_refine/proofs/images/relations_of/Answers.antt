@@ -1,4 +1,4 @@
-use Rattle.std.proofs.Common.{◌≡◌, ◌<◌, length, map, slice_index, refl, arith}
+use Rattle.std.proofs.Common.{◌<◌, length, map, slice_index, arith}
 use Rattle.ep_theory.specs.Kripke.{successors}
 use Rattle.ep_refine.specs.Marking.{is_marked}
 use Rattle.ep_refine.specs.Choices.{kept_numbers}

@@ -1,4 +1,4 @@
-use Rattle.std.proofs.Common.{◌≡◌, ◌<◌, false, length, sym, ◌∙◌, arith}
+use Rattle.std.proofs.Common.{◌≡◌, false, length, sym, ◌∙◌, arith}
 use Rattle.ep_theory.specs.Kripke.{truth_of}
 use Rattle.ep_theory.proofs.Filters.{All-at}
 use Rattle.ep_theory.proofs.Unique.{same_places}

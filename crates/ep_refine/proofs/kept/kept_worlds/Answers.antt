@@ -1,6 +1,4 @@
-use Rattle.std.proofs.Common.{◌≡◌, ◌∷◌, ◌++◌, [], length, map, sym, ap, ◌∙◌, arith}
-use Rattle.std.specs.List.{range_with_len}
-use Rattle.ep_refine.specs.Kept.{kept_before}
+use Rattle.std.proofs.Common.{◌∷◌, ◌++◌, [], length, sym, ap, ◌∙◌, arith}
 use Rattle.ep_refine.proofs.KeptLemmas.{kept_more, kept_same, kept_few, numbers_more}
 use Rattle.ep_refine.proofs.kept.kept_worlds.Goals as goal
 use Rattle.ep_refine.proofs.kept.kept_worlds.Goals.{then-get+in_ok-push-2, else-get}

@@ -3,7 +3,7 @@ use Rattle.ep_refine.proofs.ReachLemmas.{first_none, first_more, first_all, targ
 use Rattle.ep_refine.proofs.marking.mark_targets.Goals as goal
 
 pub loop-a-init : goal.loop-a-init
-loop-a-init c = first_none c.args.s.now c.args.w.n c.args.marked.now c.args.open.now.items
+loop-a-init c = first_none c.args.s.now c.args.w.n c.args.marked.now c.args.waiting.now.items
 
 pub mark-requires : goal.mark-requires
 mark-requires c = λ k d b.
@@ -13,9 +13,9 @@ mark-requires c = λ k d b.
     omega (arith, within, long, worlds)
 
 pub loop-a-preserved : goal.loop-a-preserved
-loop-a-preserved c = first_more c.args.s.now c.args.w.n c.loop-a.a c.targets.result.now c.args.marked.now c.loop-a.marked c.mark.new.marked c.args.open.now.items c.loop-a.open.items c.mark.new.open.items
+loop-a-preserved c = first_more c.args.s.now c.args.w.n c.loop-a.a c.targets.result.now c.args.marked.now c.loop-a.marked c.mark.new.marked c.args.waiting.now.items c.loop-a.waiting.items c.mark.new.waiting.items
     c.targets.ensures.value c.loop-a.invariant c.in_ok-mark.ensures
 
 pub returns : goal.returns
-returns c = first_all c.args.s.now c.agents-a-end.ensures.valid c.args.w.n c.loop-a.a c.args.marked.now c.loop-a.marked c.args.open.now.items c.loop-a.open.items
+returns c = first_all c.args.s.now c.agents-a-end.ensures.valid c.args.w.n c.loop-a.a c.args.marked.now c.loop-a.marked c.args.waiting.now.items c.loop-a.waiting.items
     (let v = c.agents-a-end.ensures.value in let t = c.loop-a-test.false in omega (arith, v, t)) c.loop-a.invariant

@@ -1,4 +1,4 @@
-use Rattle.std.proofs.Common.{arith, ◌≡◌, length, set, ◌∙◌}
+use Rattle.std.proofs.Common.{arith, ◌∙◌}
 use Rattle.std.proofs.lemmas.List.{length-set}
 use Rattle.ep_refine.specs.declared.numbering.Keyed.{Keyed}
 use Rattle.ep_refine.proofs.PlacesLemmas.{put_more, put_all}

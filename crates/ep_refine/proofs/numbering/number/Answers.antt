@@ -1,4 +1,4 @@
-use Rattle.std.proofs.Common.{◌≡◌, ℕ, List, ◌∙◌, sym, subst, length, ap, arith, map, vec_len, IsPermutation}
+use Rattle.std.proofs.Common.{◌≡◌, ℕ, List, ◌∙◌, sym, subst, length, ap, arith, vec_len, IsPermutation}
 use Rattle.std.specs.List.{range_with_len}
 use Rattle.ep_refine.specs.declared.numbering.Keyed.{Keyed}
 use Rattle.ep_refine.specs.Numbering.{OrdersAs, AreNumbers}

@@ -1,4 +1,4 @@
-use Rattle.std.proofs.Common.{rules, arith, ◌≡◌, ◌∷◌, ◌+◌, length, length-append, ◌∙◌, [], sym, ap}
+use Rattle.std.proofs.Common.{rules, arith, ◌≡◌, ◌∷◌, length, length-append, ◌∙◌, [], sym, ap}
 use Rattle.std.proofs.lemmas.Grind.{common_steps}
 use Rattle.std.proofs.lemmas.List.{length-map}
 use Rattle.ep_refine.specs.declared.numbering.Keyed.{Keyed}

@@ -1,4 +1,4 @@
-use Rattle.std.proofs.Common.{◌≡◌, arith}
+use Rattle.std.proofs.Common.{arith}
 use Rattle.ep_refine.proofs.ReachLemmas.{targets_within}
 use Rattle.ep_refine.proofs.signing.sign.Goals as goal
 

@@ -1,4 +1,4 @@
-use Rattle.std.proofs.Common.{ℕ, ◌<◌, All, length, sym, ap, ◌∙◌, subst, arith}
+use Rattle.std.proofs.Common.{◌<◌, All, length, sym, ap, ◌∙◌, subst, arith}
 use Rattle.ep_truth.specs.Sources.{with_sources}
 use Rattle.ep_truth.proofs.LabelLemmas.{successors_within}
 use Rattle.ep_truth.proofs.CommonLemmas.{adding_more, adding_room, adding_all, adding_counted}

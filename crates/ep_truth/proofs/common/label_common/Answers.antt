@@ -1,4 +1,4 @@
-use Rattle.std.proofs.Common.{◌≡◌, [], ◌∷◌, ◌++◌, ◌<◌, sym, ap, ◌∙◌, subst, arith, inl, refl, rules}
+use Rattle.std.proofs.Common.{◌≡◌, [], ◌∷◌, ◌++◌, ◌<◌, sym, subst, arith, inl, refl, rules}
 use Rattle.ep_theory.specs.Rising.{IsIn}
 use Rattle.ep_theory.proofs.Bools.{in_right}
 use Rattle.ep_truth.specs.Sources.{row_at}

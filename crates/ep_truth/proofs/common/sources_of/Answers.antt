@@ -1,4 +1,4 @@
-use Rattle.std.proofs.Common.{◌+◌, ◌<◌, sym, ap, ◌∙◌, subst, arith}
+use Rattle.std.proofs.Common.{◌+◌, ◌<◌, sym, subst, arith}
 use Rattle.ep_truth.proofs.CommonLemmas.{IsGathering, gathering_skip, gathering_more, gathering_all}
 use Rattle.ep_truth.proofs.common.sources_of.Goals as goal
 use Rattle.ep_truth.proofs.common.sources_of.Goals.{then-has+in_ok-add_links, else-has}

@@ -1,9 +1,9 @@
-use Rattle.std.proofs.Common.{◌≡◌, ℕ, ◌<◌, length, false, replicate, true, IfOk, get_or, rules, arith, sym, ap, ◌∙◌, subst}
-use Rattle.std.proofs.lemmas.Result.{IfOk-weaker, MatchResult-weaker}
-use Rattle.ep_logic.specs.declared.formula.Node.TheVariants.{True, False, Atom, Not, And, Or, Knows, Common}
+use Rattle.std.proofs.Common.{◌≡◌, length, false, replicate, IfOk, get_or, rules, arith, sym, ap, ◌∙◌, subst}
+use Rattle.std.proofs.lemmas.Result.{IfOk-weaker}
+use Rattle.ep_logic.specs.declared.formula.Node.TheVariants.{False, Atom, And, Or, Knows}
 use Rattle.ep_logic.specs.declared.formula.Node.TheFolds.{the_lemmas}
 use Rattle.ep_theory.specs.Fits.{fits_in}
-use Rattle.ep_truth.specs.Labels.{value_at, IsLabel, Tells, atom_test, all_test, any_test, knows_test}
+use Rattle.ep_truth.specs.Labels.{IsLabel, Tells, atom_test, all_test, any_test, knows_test}
 use Rattle.ep_truth.proofs.FitLemmas.{fits_in-And, fits_in-Or}
 use Rattle.ep_truth.proofs.LabelLemmas.{ones_label, label-False, label-Atom, label-Not, label-And, label-Or, label-Knows, common_label, tells_and, tells_or}
 use Rattle.ep_truth.proofs.labels.+label.Goals as goal

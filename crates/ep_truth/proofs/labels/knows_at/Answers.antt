@@ -1,4 +1,4 @@
-use Rattle.std.proofs.Common.{◌≡◌, ℕ, ◌<◌, All, sym, subst}
+use Rattle.std.proofs.Common.{◌<◌, All, sym, subst}
 use Rattle.ep_truth.proofs.LabelLemmas.{successors_within}
 use Rattle.ep_truth.proofs.labels.knows_at.Goals as goal
 

@@ -1,4 +1,4 @@
-use Rattle.std.proofs.Common.{◌≡◌, List, ℕ, length, ap, subst, arith}
+use Rattle.std.proofs.Common.{List, ℕ, length, ap, subst, arith}
 use Rattle.ep_refine.specs.Numbering.{AreNumbers}
 use Rattle.ep_refine.proofs.class_list.ClassList.count.Goals as goal
 

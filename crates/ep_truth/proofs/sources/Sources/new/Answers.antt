@@ -1,4 +1,4 @@
-use Rattle.std.proofs.Common.{◌≡◌, replicate, rules}
+use Rattle.std.proofs.Common.{◌≡◌, replicate}
 use Rattle.ep_truth.proofs.SourceLemmas.{new_chains}
 use Rattle.ep_truth.proofs.sources.Sources.new.Goals as goal
 

@@ -1,0 +1,11 @@
+//! Tests of products.
+#![tactic(auto)]
+
+#[cfg(test)]
+mod doubling;
+#[cfg(test)]
+mod made;
+#[cfg(test)]
+mod products;
+#[cfg(test)]
+mod refusals;

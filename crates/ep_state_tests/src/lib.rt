@@ -1,0 +1,15 @@
+//! Tests of values, formulas, states, truth and actions.
+#![tactic(auto)]
+
+#[cfg(test)]
+mod actions;
+#[cfg(test)]
+mod formulas;
+#[cfg(test)]
+mod made;
+#[cfg(test)]
+mod states;
+#[cfg(test)]
+mod truths;
+#[cfg(test)]
+mod values;

@@ -1,23 +1,12 @@
 // Canonical bytes, written, compared and read.
 
-use crate::made::{Given, Triple, contracted, state};
+use crate::made::{ALL_OF_TWO, Given, contracted, state};
 use ep_canon::{Canon, CanonError, same};
 use ep_kripke::State;
 use ep_logic::{List, OutOfMemory};
 use std::alloc::Global;
 use std::process::Abort;
 use std::test::Fail;
-
-const ALL_OF_TWO: &[Triple] = &[
-    (0, 0, 0),
-    (0, 0, 1),
-    (0, 1, 0),
-    (0, 1, 1),
-    (1, 0, 0),
-    (1, 0, 1),
-    (1, 1, 0),
-    (1, 1, 1),
-];
 
 const LONE: Given<'static> = Given {
     agents: 2,

@@ -1,6 +1,6 @@
 // Contractions of states.
 
-use crate::made::{Given, Triple, contracted, state};
+use crate::made::{ALL_OF_TWO, Given, Triple, contracted, state};
 use ep_kripke::State;
 use ep_logic::{AgentId, AtomId, OutOfMemory, WorldId};
 use std::alloc::Global;
@@ -70,17 +70,6 @@ const ALL_OF_FOUR: [Triple; 32] = [
     (1, 3, 3),
 ];
 
-const ALL_OF_TWO: [Triple; 8] = [
-    (0, 0, 0),
-    (0, 0, 1),
-    (0, 1, 0),
-    (0, 1, 1),
-    (1, 0, 0),
-    (1, 0, 1),
-    (1, 1, 0),
-    (1, 1, 1),
-];
-
 // A state and its contraction.
 type Case = (Given<'static>, Given<'static>);
 
@@ -115,7 +104,7 @@ const CASES: [Case; 6] = [
             agents: 2,
             atoms: 1,
             worlds: &[&[], &[0]],
-            links: &ALL_OF_TWO,
+            links: ALL_OF_TWO,
             designated: &[1],
         },
     ),

@@ -11,6 +11,18 @@ use std::process::Abort;
 /// An agent, and what it links.
 pub type Triple = (u32, u32, u32);
 
+/// Of agents 0 and 1, each links all of 0 and 1.
+pub const ALL_OF_TWO: &[Triple] = &[
+    (0, 0, 0),
+    (0, 0, 1),
+    (0, 1, 0),
+    (0, 1, 1),
+    (1, 0, 0),
+    (1, 0, 1),
+    (1, 1, 0),
+    (1, 1, 1),
+];
+
 /// The atoms that are true at each world, the links and the designated worlds.
 #[derive(Clone, Copy)]
 pub struct Given<'a> {

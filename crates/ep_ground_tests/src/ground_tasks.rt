@@ -40,29 +40,34 @@ const MANY: &str =
 const NOWHERE: &str = "task nowhere; objects { ann : agent; } fluents { p; } init { \
     vary { p } law p; designated not p; } goal true;";
 
+fn check_agent(rt: &impl Abort, task: &Task, n: u32, name: &str) {
+    assert!(rt; n < task.agents());
+    assert_eq!(rt; task.agent_name(AgentId { n }).as_slice(), name.as_bytes());
+}
+
+fn check_atom(rt: &impl Abort, task: &Task, n: u32, name: &str) {
+    assert!(rt; n < task.atoms());
+    assert_eq!(rt; task.atom_name(AtomId { n }).as_slice(), name.as_bytes());
+}
+
+fn check_action(rt: &impl Abort, task: &Task, n: u32, name: &str) {
+    assert!(rt; n < task.actions());
+    assert_eq!(rt;
+        task.action_name(ActionId { n }).as_slice(),
+        name.as_bytes()
+    );
+}
+
 fn check_names(rt: &impl Abort, task: &Task) {
     assert_eq!(rt; task.name().as_slice(), "kinds".as_bytes());
-    assert!(rt; task.agents() == 2 && task.atoms() == 1 && task.actions() == 3);
-    assert_eq!(rt;
-        task.agent_name(AgentId { n: 1 }).as_slice(),
-        "kid".as_bytes()
-    );
-    assert_eq!(rt;
-        task.atom_name(AtomId { n: 0 }).as_slice(),
-        "wet(kid)".as_bytes()
-    );
-    assert_eq!(rt;
-        task.action_name(ActionId { n: 0 }).as_slice(),
-        "look(ann)".as_bytes()
-    );
-    assert_eq!(rt;
-        task.action_name(ActionId { n: 1 }).as_slice(),
-        "look(kid)".as_bytes()
-    );
-    assert_eq!(rt;
-        task.action_name(ActionId { n: 2 }).as_slice(),
-        "dry(kid)".as_bytes()
-    );
+    check_agent(rt, task, 1, "kid");
+    check_atom(rt, task, 0, "wet(kid)");
+    for (n, name) in [(0, "look(ann)"), (1, "look(kid)"), (2, "dry(kid)")] {
+        check_action(rt, task, n, name);
+    }
+}
+
+fn check_look_up(rt: &impl Abort, task: &Task) {
     assert_eq!(rt; task.action_by_name(b"dry(kid)"), Some(ActionId { n: 2 }));
     assert_eq!(rt; task.action_by_name(b"dry(ann)"), None);
 }
@@ -71,15 +76,23 @@ fn check_names(rt: &impl Abort, task: &Task) {
 fn names_of_a_ground_task(rt: HostRuntime) -> Result<(), Fail> {
     let task = ground_task(&rt, rt.alloc(), KINDS)??;
     check_names(&rt, &task);
+    check_look_up(&rt, &task);
     discard_task(task);
     Ok(())
 }
 
-fn check_parts(rt: &impl Abort, task: &Task) {
-    assert_eq!(rt; task.objects(), 2);
-    assert_eq!(rt; task.initial().worlds(), 1);
-    assert!(rt; task.problem().actions() == 3);
+fn check_numbers(rt: &impl Abort, task: &Task) {
+    let found = [task.agents(), task.objects(), task.atoms(), task.actions()];
+    assert_eq!(rt; found, [2, 2, 1, 3]);
+}
+
+fn check_events(rt: &impl Abort, task: &Task) {
+    assert_eq!(rt; task.problem().actions(), 3);
     assert_eq!(rt; task.action(ActionId { n: 2 }).events(), 1);
+}
+
+fn check_parts(rt: &impl Abort, task: &Task) {
+    assert_eq!(rt; task.initial().worlds(), 1);
     assert!(rt; matches!(task.goal().node(), Node::Not(_)));
     assert_eq!(rt; task.typed().object_count(), 2);
 }
@@ -87,6 +100,8 @@ fn check_parts(rt: &impl Abort, task: &Task) {
 #[test]
 fn parts_of_a_ground_task(rt: HostRuntime) -> Result<(), Fail> {
     let task = ground_task(&rt, rt.alloc(), KINDS)??;
+    check_numbers(&rt, &task);
+    check_events(&rt, &task);
     check_parts(&rt, &task);
     discard_task(task);
     Ok(())

@@ -12,7 +12,7 @@ use Rattle.ep_universe.specs.Counts.{ground_count}
 use Rattle.ep_universe.specs.FirstToken.{first_token}
 use Rattle.ep_universe.specs.FormulaFaults.{typing_or}
 use Rattle.ep_universe.specs.Objects.{agents_of}
-use Rattle.ep_ground_tests.proofs.lawful_states.groundable.Goals as goal
+use Rattle.ep_universe_tests.proofs.lawful_states.groundable.Goals as goal
 
 no_refusal : (o : Option (TypeFault × ℕ)) (b : Bool) (x : FormulaFault) → typing_or o (cond b (Some x) None) ≡ None → (o ≡ None) × (b ≡ false)
 no_refusal None false x h = (refl, refl)

@@ -224,22 +224,12 @@ struct Names {
 }
 
 /// What a ground task is made of beside its tree: the printed names of agents, atoms and actions, and the problem.
+#[derive(Drop)]
 pub struct Parts {
     pub agents: List<Text>,
     pub atoms: List<Text>,
     pub actions: NameTable,
     pub problem: Problem,
-}
-
-impl Drop for Parts {
-    fn drop(self) {
-        let Parts {
-            agents: _agents,
-            atoms: _atoms,
-            actions: _actions,
-            problem: _problem,
-        } = self;
-    }
 }
 
 fn names_of_task(alloc: Global, typed: &Typed) -> Result<Names, OutOfMemory>

@@ -81,12 +81,19 @@ fn shows(alloc: Global, task: &Task, plan: &Plan) -> Result<Answer, Stop>
 
 // ---- contract
 
+// Bytes in hexadecimal.
+fn hexadecimal(alloc: Global, bytes: &[u8]) -> Result<String, OutOfMemory>
+    ensures { IfOk result (λ text. string_bytes text ≡ encode_lower bytes.now) }
+{
+    Ok(hex::encode(alloc, bytes)?)
+}
+
 // The canonical bytes in hexadecimal.
 fn digits(alloc: Global, canon: &Canon) -> Result<String, OutOfMemory>
     ensures { IfOk result (λ text. string_bytes text ≡ encode_lower (bytes_of canon.now)) }
 {
     let bytes = canon.bytes(alloc)?;
-    Ok(hex::encode(alloc, bytes.as_slice())?)
+    hexadecimal(alloc, bytes.as_slice())
 }
 
 fn contraction(alloc: Global, task: &Task, state: &State) -> Result<Answer, OutOfMemory>

@@ -6,13 +6,13 @@ use Rattle.ep_reading.proofs.Steps.{ground_formed, ground_shallow}
 use Rattle.ep_checking.proofs.CheckLemmas.{checks_is_behind}
 use Rattle.ep_checking.proofs.check.check_task.Goals as goal
 
-pub checked-checked-requires-clause-formed : goal.checked-checked-requires-clause-formed
-checked-checked-requires-clause-formed g c =
+pub checked-requires-clause-formed : goal.checked-requires-clause-formed
+checked-requires-clause-formed g c =
     let t = c.in_ok-task.ensures.task.is_task in
     ground_formed t.tree c.in_ok-task.task t.is_ground.whole t.is_tree.reads.formed
 
-pub checked-checked-requires-clause-shallow : goal.checked-checked-requires-clause-shallow
-checked-checked-requires-clause-shallow g c =
+pub checked-requires-clause-shallow : goal.checked-requires-clause-shallow
+checked-requires-clause-shallow g c =
     let t = c.in_ok-task.ensures.task.is_task in
     ground_shallow t.tree c.in_ok-task.task t.is_ground.whole t.is_tree.reads.shallow
 

@@ -11,8 +11,8 @@ returns-in_err-task-clause-answer g c =
     let p = err_from_is_err_and c.from_residual.result c.from_residual.ensures.1 in
     rw (p.1, p.2) (stops_at_task _ _ c.args.file.now (λ files. Plans c.args.bounds c.args.first) _ _ (λ s name n. n) c.in_err-task.ensures.task)
 
-pub answered-answered-requires-clause-whole : goal.answered-answered-requires-clause-whole
-answered-answered-requires-clause-whole g c = whole_task c.in_ok-task.ensures.task.bytes c.in_ok-task.task c.in_ok-task.ensures.task.is_task
+pub answered-requires-clause-whole : goal.answered-requires-clause-whole
+answered-requires-clause-whole g c = whole_task c.in_ok-task.ensures.task.bytes c.in_ok-task.task c.in_ok-task.ensures.task.is_task
 
 pub returns-clause-answer : goal.returns-clause-answer
 returns-clause-answer g c =

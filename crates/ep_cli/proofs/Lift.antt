@@ -1,8 +1,11 @@
 -- What a command answers its words answer.
-use Rattle.std.proofs.Common.{◌≡◌, ◌↔◌, ◌-◌, ℕ, List, inl, inr, refl, subst}
+use Rattle.std.proofs.Common.{◌≡◌, ◌↔◌, ◌-◌, ℕ, List, inl, inr, refl, subst, Result, Ok, Err, IfOk}
 use Rattle.ep_io.specs.Library.{LibraryState}
 use Rattle.ep_words.specs.Words.{IsCommand}
 use Rattle.ep_words.specs.declared.command.Command.{Command}
+use Rattle.ep_answer.specs.declared.answer.Stop.TheVariants.{Told}
+use Rattle.ep_answer.specs.declared.answer.Stop.{Stop}
+use Rattle.ep_answer.specs.declared.answer.Answer.{Answer}
 use Rattle.ep_answer.specs.declared.answer.Answer.TheVariants.{Misused}
 use Rattle.ep_answer.specs.declared.cause.Cause.TheVariants as cause
 use Rattle.ep_answer.specs.declared.status.Status.{Status}
@@ -44,3 +47,8 @@ misused_is_answer words guides library none = record {
   where
     no_fault : answer_status Misused ≡ ReadFault → ⊥
     no_fault e = cc
+
+-- the answer that a stop tells
+pub if_told : {E : Type 0} (P : Answer → Type 0) (r : Result Answer E) (stop : Stop) → IfOk r (λ answer. stop ≡ Told answer) → ((answer : Answer) → stop ≡ Told answer → P answer) → IfOk r P
+if_told P (Ok answer) stop is f = f answer is
+if_told P (Err error) stop is f = tt

@@ -10,7 +10,7 @@ use Rattle.ep_words.specs.declared.command.Command.TheVariants.{Plan, Validate, 
 use Rattle.ep_words.specs.declared.options.Options.{Options}
 use Rattle.ep_words.specs.declared.options.PlanOption.{PlanOption}
 use Rattle.ep_words.specs.declared.options.PlanOption.TheVariants.{Depth, States, Worlds, Guide, First}
-use Rattle.ep_cli.specs.Results.{search_bounds}
+use Rattle.ep_planning.specs.Planning.{search_bounds}
 
 -- ---- files
 

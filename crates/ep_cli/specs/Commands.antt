@@ -1,44 +1,24 @@
 -- Which status and text the words have, over the files that a library holds.
-use Rattle.std.specs.Prelude.{◌≡◌, ◌⊎◌, ℕ, ◌≤◌, ◌<◌, List, [], slice_index_or}
+use Rattle.std.specs.Prelude.{◌≡◌, ◌⊎◌, ℕ, ◌≤◌, List, [], slice_index_or}
 use Rattle.ep_trial.specs.TrialText.{trial_text}
-use Rattle.ep_logic.specs.declared.ids.ActionId.{ActionId}
-use Rattle.ep_parts.specs.Task.{GroundTask}
 use Rattle.ep_words.specs.Words.{IsCommand}
 use Rattle.ep_words.specs.declared.command.Command.{Command}
 use Rattle.ep_words.specs.declared.command.Command.TheVariants.{Plan, Validate, Eval, State, Contract, Same, Check, Trial}
 use Rattle.ep_io.specs.Library.{FileMap}
-use Rattle.ep_cli.specs.declared.answer.Answer.TheVariants.{Misused, NoSuchGuide}
-use Rattle.ep_cli.specs.declared.cause.Subject.{Subject}
-use Rattle.ep_cli.specs.declared.cause.Subject.TheVariants as the
-use Rattle.ep_cli.specs.declared.run_stop.Whose.TheVariants.{First, Second}
-use Rattle.ep_cli.specs.PlanFile.{NamesPlan, PlanFile, Ran}
-use Rattle.ep_cli.specs.Results.{Checks, Compares, Contractions, Evals, Plans, States, Tries, Validates}
-use Rattle.ep_cli.specs.Served.{Outcome, TaskFile, TaskRead, answers}
+use Rattle.ep_answer.specs.declared.answer.Answer.TheVariants.{Misused}
+use Rattle.ep_answer.specs.declared.cause.Subject.{Subject}
+use Rattle.ep_answer.specs.declared.cause.Subject.TheVariants as the
+use Rattle.ep_reading.specs.PlanFile.{NamesPlan}
+use Rattle.ep_checking.specs.Checking.{Checks}
+use Rattle.ep_compare.specs.Comparing.{SameWork}
+use Rattle.ep_question.specs.Questions.{Contractions, Evals, States, Validates, PlanWork}
+use Rattle.ep_planning.specs.Planning.{Plans, Guided}
+use Rattle.ep_planning.specs.Trials.{Tries}
+use Rattle.ep_reading.specs.Served.{Outcome, TaskFile, TaskRead, answers}
 
 -- the word at a place
 abbrev pub word_at : List (List ℕ) → ℕ → List ℕ
 word_at words n = slice_index_or words n []
-
--- a guide by its place, if there is one
-abbrev pub Guided : ℕ → ℕ → (Outcome → Type 0) → Outcome → Type 0
-Guided guides place next outcome =
-    ((guides ≤ place) × (outcome ≡ answers NoSuchGuide)) ⊎ ((place < guides) × next outcome)
-
--- ---- the commands with plans
-
--- the task of a file, a plan for it, and what is asked of them
-abbrev pub PlanWork : FileMap → List ℕ → List ℕ → (GroundTask → List ActionId → Outcome → Type 0) → Outcome → Type 0
-PlanWork files file plan ask = TaskFile files file (λ g. PlanFile files the.Plan plan g (ask g))
-
--- two plans for a task; the first one is run before the second one is read
-abbrev pub TwoPlans : FileMap → List ℕ → List ℕ → GroundTask → Outcome → Type 0
-TwoPlans files one two g =
-    PlanFile files the.FirstPlan one g (λ p. Ran First g p (λ S.
-    PlanFile files the.SecondPlan two g (λ q. Ran Second g q (Compares S))))
-
--- the task of a file, and two plans for it
-abbrev pub SameWork : FileMap → List ℕ → List ℕ → List ℕ → Outcome → Type 0
-SameWork files file one two = TaskFile files file (TwoPlans files one two)
 
 -- ---- all commands
 

@@ -1,7 +1,7 @@
 -- What a command answers its words answer.
 use Rattle.std.proofs.Common.{sym}
 use Rattle.ep_words.specs.declared.command.Command.TheVariants.{Plan}
-use Rattle.ep_cli.proofs.Lift.{IsAnswer-command}
+use Rattle.ep_cli.proofs.Lift.{IsAnswer-command, if_told}
 use Rattle.ep_cli.proofs.top.respond.Goals as goal
 
 pub returns-in-Ok-serve-clause-answer : goal.returns-in-Ok-serve-clause-answer
@@ -10,12 +10,12 @@ returns-in-Ok-serve-clause-answer g c = IsAnswer-command _ _ c.in-Ok.command _ _
 pub returns-in-Ok-serve-clause-asked : goal.returns-in-Ok-serve-clause-asked
 returns-in-Ok-serve-clause-asked g c b guide first are some needs = c.in-Ok-serve.ensures.asked b guide first (sym (c.in-Ok.ensures.only (Plan b guide first) are)) some needs
 
-pub returns-in-Err-Told-clause-answer : goal.returns-in-Err-Told-clause-answer
-returns-in-Err-Told-clause-answer g c =
-    let told = rw c.in-Err-Told.field-0-is at c.in-Err-Told.ensures.answer in
-    IsAnswer-command _ _ c.in-Ok.command _ _ _ _ c.in-Ok.ensures.command c.in-Ok.ensures.only told
+pub returns-in-Err-serve-clause-answer : goal.returns-in-Err-serve-clause-answer
+returns-in-Err-serve-clause-answer g c =
+    if_told _ c.answer_of.result c.in-Err-serve.stop c.answer_of.ensures
+    (λ answer is. let told = rw is at c.in-Err-serve.ensures.answer in IsAnswer-command _ _ c.in-Ok.command _ _ _ _ c.in-Ok.ensures.command c.in-Ok.ensures.only told)
 
-pub returns-in-Err-Told-clause-asked : goal.returns-in-Err-Told-clause-asked
-returns-in-Err-Told-clause-asked g c b guide first are some needs =
-    let asked = rw c.in-Err-Told.field-0-is at c.in-Err-Told.ensures.asked in
-    asked b guide first (sym (c.in-Ok.ensures.only (Plan b guide first) are)) some needs
+pub returns-in-Err-serve-clause-asked : goal.returns-in-Err-serve-clause-asked
+returns-in-Err-serve-clause-asked g c =
+    if_told _ c.answer_of.result c.in-Err-serve.stop c.answer_of.ensures
+    (λ answer is b guide first are some needs. let asked = rw is at c.in-Err-serve.ensures.asked in asked b guide first (sym (c.in-Ok.ensures.only (Plan b guide first) are)) some needs)

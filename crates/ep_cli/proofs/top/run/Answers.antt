@@ -1,7 +1,7 @@
 -- What was written, and whether it rests on a guide.
 use Rattle.std.proofs.Common.{◌≡◌, sym, subst, ◌∙◌}
-use Rattle.ep_cli.specs.Answer.{answer_text}
-use Rattle.ep_cli.specs.Status.{IsUsageUnlessCut}
+use Rattle.ep_answer.specs.Answer.{answer_text}
+use Rattle.ep_answer.specs.Status.{IsUsageUnlessCut}
 use Rattle.ep_cli.proofs.GuideLemmas.{rests_answer}
 use Rattle.ep_cli.proofs.top.run.Goals as goal
 

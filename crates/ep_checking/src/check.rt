@@ -1,0 +1,50 @@
+// `check FILE`.
+ghost use Rattle.std.specs.Prelude.{◌≡◌, IfOk};
+ghost use Rattle.ep_tree.specs.Formed.{IsFormedTask};
+ghost use Rattle.ep_tree.specs.Marks.{IsShallow};
+ghost use Rattle.ep_tree.specs.Spelling as spell;
+ghost use Rattle.ep_checking.specs.Checking.{Checks, counts_of};
+ghost use Rattle.ep_reading.specs.Run.{GoesOn};
+ghost use Rattle.ep_reading.specs.Served.{TaskFile, answers};
+ghost use Rattle.ep_reading.specs.Steps.{OnlyFile, Serves};
+ghost use Rattle.ep_answer.specs.declared.cause.Subject.TheVariants.{Task as OfTask};
+
+use ep_answer::{Answer, Counts, Stop};
+use ep_base::OutOfMemory;
+use ep_ground::Task;
+use ep_io::Library;
+use ep_reading::task_file;
+use ep_syntax::print_task;
+use std::alloc::Global;
+
+fn counts(task: &Task) -> Counts
+    ensures { result ≡ counts_of task.now }
+{
+    Counts {
+        agents: task.agents(),
+        objects: task.objects(),
+        atoms: task.atoms(),
+        actions: task.actions(),
+        worlds: task.initial().worlds(),
+    }
+}
+
+fn checked(alloc: Global, task: &Task) -> Result<Answer, OutOfMemory>
+    requires formed { IsFormedTask task.now.tree }
+    requires shallow { IsShallow (spell.task task.now.tree) }
+    ensures { IfOk result (λ answer. Checks task.now (answers answer)) }
+{
+    let counts = counts(task);
+    let layout = print_task(alloc, task.typed().tree())?;
+    Ok(Answer::Checked { counts, layout })
+}
+
+/// The numbers of a task, and its layout.
+pub fn check_task<L: Library>(alloc: Global, files: &mut L, file: &str) -> Result<Answer, Stop>
+    ensures goes_on { GoesOn (L.library files.old) (L.library files.new) }
+    ensures answer { Serves (λ held. TaskFile held file.now Checks) (OnlyFile OfTask file.now) ⊥ (L.library files.old) (L.library files.new) result }
+{
+    let task = task_file(alloc, files, file)?;
+    let answer = checked(alloc, &task)?;
+    Ok(answer)
+}

@@ -1,0 +1,328 @@
+// What the commands with plans answer.
+
+use crate::memory::tells_of_plans;
+use crate::tasks::{COIN, FAR, LETTER, LONE, MSG, SWAP, TWO, WAIT};
+use std::alloc::Global;
+use std::process::Abort;
+use std::test::Fail;
+
+// Words, the task `t`, the plan file `a`, and what is answered.
+type Row = (
+    &'static [&'static str],
+    &'static str,
+    &'static str,
+    u8,
+    &'static str,
+);
+
+fn serves(rt: &impl Abort, alloc: Global, rows: &[Row]) -> Result<(), Fail> {
+    for (words, task, plan, code, text) in rows {
+        tells_of_plans(rt, alloc, (task, [plan, ""]), words, *code, text)?;
+    }
+    Ok(())
+}
+
+const SAY: &str = "plan 1\ntask two\nactions 1\nsay\nend\n";
+
+const SWAPS: &str = "plan 1\ntask swap_task\nactions 1\nswap\nend\n";
+
+const BOTH: &str = "plan 1\ntask msg\nactions 1\nboth\nend\n";
+
+const ONLY: &str = "plan 1\ntask msg\nactions 1\nonly\nend\n";
+
+const PEEK: &str = "plan 1\ntask coin\nactions 1\npeek(ann)\nend\n";
+
+const TWICE: &str = "plan 1\ntask coin\nactions 1\ntwice\nend\n";
+
+const THREE: &str = "plan 1\ntask far\nactions 1\nthree\nend\n";
+
+const FOUR: &str = "plan 1\ntask far\nactions 1\nfour\nend\n";
+
+const VALIDATED: [Row; 8] = [
+    (&["validate", "t", "a"], TWO, SAY, 1, "no: step 1\n"),
+    (&["validate", "t", "a"], SWAP, SWAPS, 0, "yes\n"),
+    (&["validate", "t", "-"], SWAP, "", 1, "no: goal\n"),
+    (
+        &["validate", "t", "a"],
+        COIN,
+        "plan 1\ntask coin\nactions 2\npeek(ann)\nend\n",
+        3,
+        "refused: plan: wrong count\n",
+    ),
+    (
+        &["validate", "t", "a"],
+        COIN,
+        "plan 1\ntask coin\nactions 1\npeek(an",
+        3,
+        "refused: plan: syntax at token 9, line 4\n",
+    ),
+    (
+        &["validate", "t", "a"],
+        COIN,
+        "plan 1\ntask coin\nactions 1\nfly\nend\n",
+        3,
+        "refused: plan: unknown action at line 4\n",
+    ),
+    (
+        &["validate", "t", "a"],
+        COIN,
+        SAY,
+        3,
+        "refused: plan: other task\n",
+    ),
+    (
+        &["validate", "t", "u"],
+        COIN,
+        SAY,
+        3,
+        "refused: plan: no such file\n",
+    ),
+];
+
+#[test]
+fn plans_are_validated(rt: HostRuntime) -> Result<(), Fail> {
+    serves(&rt, rt.alloc(), &VALIDATED)?;
+    Ok(())
+}
+
+// A plan that waits so often.
+fn waits(alloc: Global, count: u32) -> Result<String, Fail> {
+    let calls = "wait\n".repeat(alloc, count as usize)?;
+    Ok(format!(in alloc; "plan 1\ntask wait_task\nactions {count}\n{calls}end\n")?)
+}
+
+fn runs_to(
+    rt: &impl Abort,
+    alloc: Global,
+    verb: &str,
+    count: u32,
+    code: u8,
+    text: &str,
+) -> Result<(), Fail> {
+    let plan = waits(alloc, count)?;
+    let files = (WAIT, [plan.as_str(), ""]);
+    tells_of_plans(rt, alloc, files, &[verb, "t", "a"], code, text)
+}
+
+// Each call doubles the worlds.
+#[test]
+fn long_runs_are_spent(rt: HostRuntime) -> Result<(), Fail> {
+    let rows = [
+        ("validate", 16, 1, "no: goal\n"),
+        ("validate", 17, 7, "spent: step 17, worlds 131072\n"),
+        ("contract", 3, 0, WAITED),
+        ("state", 13, 7, "spent: step 13, worlds 8192\n"),
+    ];
+    for (verb, count, code, text) in rows {
+        runs_to(&rt, rt.alloc(), verb, count, code, text)?;
+    }
+    Ok(())
+}
+
+const WAITED: &str =
+    "worlds 1\natom done\nworld 0 0 designated\nlinks ann 0: 0\nbytes 0001010001000101\n";
+
+const EVALUATED: [Row; 11] = [
+    (
+        &["eval", "t", "a", "(q and not p)"],
+        SWAP,
+        SWAPS,
+        0,
+        "true at 1 of 1\n",
+    ),
+    (
+        &["eval", "t", "a", "common {ann, bob} heads"],
+        MSG,
+        BOTH,
+        0,
+        "true at 1 of 1\n",
+    ),
+    (
+        &["eval", "t", "a", "common {ann, bob} heads"],
+        MSG,
+        ONLY,
+        0,
+        "true at 0 of 1\n",
+    ),
+    (
+        &["eval", "t", "-", "knows bob heads"],
+        LONE,
+        "",
+        0,
+        "true at 1 of 1\n",
+    ),
+    (&["eval", "t", "-", "heads"], TWO, "", 0, "true at 1 of 2\n"),
+    (
+        &["eval", "t", "-", "knows carl heads"],
+        COIN,
+        "",
+        3,
+        "refused: formula: unknown name at token 1, line 1\n",
+    ),
+    (
+        &["eval", "t", "-", "knows ann"],
+        COIN,
+        "",
+        3,
+        "refused: formula: syntax at token 2, line 1\n",
+    ),
+    (
+        &["eval", "t", "-", "heads ?"],
+        COIN,
+        "",
+        3,
+        "refused: formula: stray byte at 6\n",
+    ),
+    // The plan file is read before the formula, and run behind it.
+    (
+        &["eval", "t", "a", "heads ?"],
+        COIN,
+        SAY,
+        3,
+        "refused: plan: other task\n",
+    ),
+    (
+        &["eval", "t", "a", "tails"],
+        TWO,
+        SAY,
+        3,
+        "refused: formula: unknown name at token 0, line 1\n",
+    ),
+    (&["eval", "t", "a", "heads"], TWO, SAY, 1, "no: step 1\n"),
+];
+
+#[test]
+fn formulas_are_evaluated(rt: HostRuntime) -> Result<(), Fail> {
+    serves(&rt, rt.alloc(), &EVALUATED)?;
+    Ok(())
+}
+
+const LETTER_STATE: &str = "worlds 2
+atom pass
+world 0 0
+world 1 1 designated
+links ann 0: 0
+links ann 1: 1
+links bob 0: 0 1
+links bob 1: 0 1
+links cat 0: 0 1
+links cat 1: 0 1
+";
+
+const PEEKED: &str = "worlds 2
+atom heads
+world 0 1 designated
+world 1 0
+links ann 0: 0
+links ann 1: 1
+links bob 0: 0 1
+links bob 1: 0 1
+";
+
+const LONE_CONTRACTED: &str = "worlds 1
+atom heads
+world 0 1 designated
+links ann 0: 0
+links bob 0: 0
+bytes 000102000101010101
+";
+
+const COIN_CONTRACTED: &str = "worlds 2
+atom heads
+world 0 0
+world 1 1 designated
+links ann 0: 0 1
+links ann 1: 0 1
+links bob 0: 0 1
+links bob 1: 0 1
+bytes 000202000100010303030302
+";
+
+const FAR_CONTRACTED: &str = "worlds 3
+world 0 -
+world 1 -
+world 2 - designated
+links ann 0:
+links ann 1: 0
+links ann 2: 1
+bytes 000301000000010204
+";
+
+const SHOWN: [Row; 7] = [
+    (&["state", "t", "-"], LETTER, "", 0, LETTER_STATE),
+    (&["state", "t", "a"], COIN, PEEK, 0, PEEKED),
+    (&["state", "t", "a"], TWO, SAY, 1, "no: step 1\n"),
+    (&["contract", "t", "-"], LONE, "", 0, LONE_CONTRACTED),
+    (&["contract", "t", "-"], COIN, "", 0, COIN_CONTRACTED),
+    (&["contract", "t", "a"], COIN, TWICE, 0, COIN_CONTRACTED),
+    (&["contract", "t", "a"], FAR, THREE, 0, FAR_CONTRACTED),
+];
+
+#[test]
+fn states_are_shown(rt: HostRuntime) -> Result<(), Fail> {
+    serves(&rt, rt.alloc(), &SHOWN)?;
+    Ok(())
+}
+
+// Words, the task, both plan files, and what is answered.
+type SameRow = (
+    &'static [&'static str],
+    &'static str,
+    [&'static str; 2],
+    u8,
+    &'static str,
+);
+
+const COMPARED: [SameRow; 6] = [
+    (
+        &["same", "t", "-", "a"],
+        COIN,
+        [TWICE, ""],
+        0,
+        "bisimilar\n",
+    ),
+    (
+        &["same", "t", "a", "b"],
+        FAR,
+        [THREE, FOUR],
+        1,
+        "different\n",
+    ),
+    (
+        &["same", "t", "a", "-"],
+        TWO,
+        [SAY, ""],
+        1,
+        "no: first plan, step 1\n",
+    ),
+    (
+        &["same", "t", "-", "a"],
+        TWO,
+        [SAY, ""],
+        1,
+        "no: second plan, step 1\n",
+    ),
+    // The first plan is run before the second file is fetched.
+    (
+        &["same", "t", "a", "u"],
+        TWO,
+        [SAY, ""],
+        1,
+        "no: first plan, step 1\n",
+    ),
+    (
+        &["same", "t", "b", "u"],
+        COIN,
+        ["", PEEK],
+        3,
+        "refused: second plan: no such file\n",
+    ),
+];
+
+#[test]
+fn states_are_compared(rt: HostRuntime) -> Result<(), Fail> {
+    for (words, task, plans, code, text) in COMPARED {
+        tells_of_plans(&rt, rt.alloc(), (task, plans), words, code, text)?;
+    }
+    Ok(())
+}

@@ -1,0 +1,80 @@
+// `same FILE PLAN PLAN`.
+ghost use Rattle.std.specs.Prelude.{◌≤◌, IfOk};
+ghost use Rattle.ep_compare.specs.Comparing.{SameWork, TwoPlans};
+ghost use Rattle.ep_reading.specs.PlanFile.{PlanFile, Ran};
+ghost use Rattle.ep_compare.specs.Comparing.{Compares};
+ghost use Rattle.ep_reading.specs.Run.{GoesOn};
+ghost use Rattle.ep_reading.specs.Served.{answers};
+ghost use Rattle.ep_compare.specs.Comparing.{BothPlans, TaskAndPlans};
+ghost use Rattle.ep_reading.specs.Steps.{OnlyPlan, Serves};
+ghost use Rattle.ep_answer.specs.declared.cause.Subject.TheVariants.{FirstPlan as OfFirst, SecondPlan as OfSecond};
+ghost use Rattle.ep_answer.specs.declared.run_stop.Whose.TheVariants.{First, Second};
+
+use ep_answer::{Answer, Stop, Subject, Whose};
+use ep_base::OutOfMemory;
+use ep_ground::Task;
+use ep_io::Library;
+use ep_kripke::State;
+use ep_reading::{plan_file, ran, task_file};
+use std::alloc::Global;
+
+fn compared(alloc: Global, first: &State, second: &State) -> Result<Answer, OutOfMemory>
+    requires first { first.now.worlds ≤ 4096 }
+    requires second { second.now.worlds ≤ 4096 }
+    ensures { IfOk result (λ answer. Compares first.now second.now (answers answer)) }
+{
+    if ep_canon::same(alloc, first, second)? {
+        Ok(Answer::Bisimilar)
+    } else {
+        Ok(Answer::Different)
+    }
+}
+
+// What the second plan leaves, compared with what the first one left.
+fn with_second<L: Library>(
+    alloc: Global,
+    files: &mut L,
+    task: &Task,
+    first: &State,
+    word: &str,
+) -> Result<Answer, Stop>
+    requires { first.now.worlds ≤ 4096 }
+    ensures goes_on { GoesOn (L.library files.old) (L.library files.new) }
+    ensures answer { Serves (λ held. PlanFile held OfSecond word.now task.now (λ q. Ran Second task.now q (Compares first.now))) (OnlyPlan OfSecond word.now) ⊥ (L.library files.old) (L.library files.new) result }
+{
+    let plan = plan_file(alloc, files, Subject::SecondPlan, task, word)?;
+    let second = ran(alloc, task, Whose::Second, &plan)?;
+    let answer = compared(alloc, first, &second)?;
+    Ok(answer)
+}
+
+// What the plans leave, compared.
+fn with_both<L: Library>(
+    alloc: Global,
+    files: &mut L,
+    task: &Task,
+    one: &str,
+    two: &str,
+) -> Result<Answer, Stop>
+    ensures goes_on { GoesOn (L.library files.old) (L.library files.new) }
+    ensures answer { Serves (λ held. TwoPlans held one.now two.now task.now) (BothPlans one.now two.now) ⊥ (L.library files.old) (L.library files.new) result }
+{
+    let plan = plan_file(alloc, files, Subject::FirstPlan, task, one)?;
+    let first = ran(alloc, task, Whose::First, &plan)?;
+    with_second(alloc, files, task, &first, two)
+}
+
+/// Whether what the plans leave is bisimilar.
+pub fn compare_plans<L: Library>(
+    alloc: Global,
+    files: &mut L,
+    file: &str,
+    one: &str,
+    two: &str,
+) -> Result<Answer, Stop>
+    ensures goes_on { GoesOn (L.library files.old) (L.library files.new) }
+    ensures answer { Serves (λ held. SameWork held file.now one.now two.now) (TaskAndPlans file.now one.now two.now) ⊥ (L.library files.old) (L.library files.new) result }
+{
+    let task = task_file(alloc, files, file)?;
+    with_both(alloc, files, &task, one, two)
+}

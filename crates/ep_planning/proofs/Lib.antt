@@ -1,0 +1,4 @@
+pub mod GuideLemmas
+pub mod GuidedLemmas
+pub mod PlanLemmas
+pub mod TrialLemmas

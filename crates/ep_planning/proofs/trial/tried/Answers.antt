@@ -1,0 +1,33 @@
+-- The trial, from the contraction and the answer.
+use Rattle.std.proofs.Common.{refl, subst, ◌∙◌, ap}
+use Rattle.ep_theory.specs.PlanningTask.{PlanningTask}
+use Rattle.ep_search.specs.Allowed.{Allowed}
+use Rattle.ep_search.specs.declared.answer.Mode.TheVariants as mode
+use Rattle.ep_theory.specs.Kripke.{Kripke}
+use Rattle.ep_planning.proofs.PlanLemmas.{allowed_has_actions}
+use Rattle.ep_planning.proofs.trial.tried.Goals as goal
+
+pub end-requires : goal.end-requires
+end-requires g c =
+    let found = c.in_ok-found.found in
+    let allowed = subst (λ (T : PlanningTask). Allowed T c.args.children 1000 256 mode.Prove found) c.problem.ensures.value c.in_ok-found.ensures.allowed in
+    record {
+      depth = c.requires;
+      allowed = allowed;
+      actions = allowed_has_actions c.args.task.now c.args.children 1000 256 mode.Prove found c.actions-actions.ensures.named.actions allowed;
+    }
+
+pub returns : goal.returns
+returns g c =
+    let found = c.in_ok-found.found in
+    let allowed = subst (λ (T : PlanningTask). Allowed T c.args.children 1000 256 mode.Prove found) c.problem.ensures.value c.in_ok-found.ensures.allowed in
+    record {
+      children = refl;
+      worlds = c.worlds.ensures.value ∙ ap (λ (S : Kripke). S.worlds) c.initial.ensures;
+      contraction = c.in_ok-contracted.ensures.0;
+      contracts = c.in_ok-contracted.ensures.1;
+      contracted = c.in_ok-contracted.ensures.2;
+      answer = found;
+      allowed = allowed;
+      ends = c.in_ok-end.ensures;
+    }

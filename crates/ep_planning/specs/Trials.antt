@@ -1,0 +1,36 @@
+-- What `trial` answers for its ground task.
+use Rattle.std.specs.Prelude.{◌≡◌, ℕ, length}
+use Rattle.ep_theory.specs.Canonical.{Contracts}
+use Rattle.ep_theory.specs.Kripke.{Kripke}
+use Rattle.ep_parts.specs.Task.{GroundTask}
+use Rattle.ep_plan.specs.Verdicts.{IsVerdict}
+use Rattle.ep_plan.specs.declared.verdicts.Verdict.{Verdict}
+use Rattle.ep_search.specs.Allowed.{Allowed}
+use Rattle.ep_search.specs.declared.answer.Answer.{Answer as Found}
+use Rattle.ep_search.specs.declared.answer.Answer.TheVariants as found
+use Rattle.ep_search.specs.declared.answer.Mode.TheVariants as mode
+use Rattle.ep_answer.specs.declared.answer.Answer.TheVariants.{Tried}
+use Rattle.ep_answer.specs.declared.trial_text.Trial.{Trial}
+use Rattle.ep_answer.specs.declared.trial_text.TrialEnd.{TrialEnd}
+use Rattle.ep_answer.specs.declared.trial_text.TrialEnd.TheVariants.{Solved, Open}
+use Rattle.ep_reading.specs.Served.{Outcome, answers}
+use Rattle.ep_planning.specs.Planning.{planned_of}
+
+-- how a trial ends: with the length of a shortest plan and the verdict on it, or with another answer
+abbrev pub TrialEnds : GroundTask → ℕ → Found → TrialEnd → Type 0
+TrialEnds g n (found.Shortest p) end = (v : Verdict) × IsVerdict g.problem p v × (end ≡ Solved (length p) v)
+TrialEnds g n answer end = end ≡ Open (planned_of g n answer)
+
+-- the worlds of the initial state and of its contraction, and an answer that the task allows for depth n, 1,000 states and 256 worlds
+pub record IsTrial (n : ℕ) (g : GroundTask) (trial : Trial) : Type 0 where
+  pub children : trial.children ≡ n
+  pub worlds : trial.worlds ≡ g.problem.initial.worlds
+  pub contraction : Kripke
+  pub contracts : Contracts g.problem.initial contraction
+  pub contracted : trial.contracted ≡ contraction.worlds
+  pub answer : Found
+  pub allowed : Allowed g.problem n 1000 256 mode.Prove answer
+  pub ends : TrialEnds g n answer trial.end
+
+unfoldable pub Tries : ℕ → GroundTask → Outcome → Type 0
+Tries n g outcome = (trial : Trial) × IsTrial n g trial × (outcome ≡ answers (Tried trial))

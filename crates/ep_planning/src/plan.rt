@@ -1,0 +1,161 @@
+// `plan FILE` and its options.
+ghost use Rattle.std.specs.Prelude.{◌≡◌, ◌<◌, ◌≤◌, IfOk, length};
+ghost use Rattle.ep_guide.specs.Asked.{Rose};
+ghost use Rattle.ep_search.specs.Allowed.{Allowed, WasAsked};
+ghost use Rattle.ep_search.specs.Limits.{IsBounds};
+ghost use Rattle.ep_planning.specs.Planning.{Guided};
+ghost use Rattle.ep_reading.specs.Guides.{AnswerNeeds, ResultNeeds};
+ghost use Rattle.ep_planning.specs.Asked.{IsWhole, WasAskedAt};
+ghost use Rattle.ep_planning.specs.Planning.{HasItsActions, Plans, mode_of, planned_of, search_bounds};
+ghost use Rattle.ep_reading.specs.Run.{GoesOn};
+ghost use Rattle.ep_reading.specs.Served.{TaskFile, answers};
+ghost use Rattle.ep_reading.specs.Steps.{OnlyFile, Serves};
+ghost use Rattle.ep_answer.specs.declared.cause.Subject.TheVariants.{Task as OfTask};
+
+use ep_answer::{Answer, Planned, Stop};
+use ep_ground::Task;
+use ep_guide::Guide;
+use ep_io::Library;
+use ep_logic::{OutOfMemory, Steps};
+use ep_plan_text::{Mark, print_actions, print_plan};
+use ep_problem::Problem;
+use ep_reading::task_file;
+use ep_search::{Answer as Found, Bounds as SearchBounds, Mode, search};
+use ep_words::Bounds;
+use std::alloc::Global;
+use std::marker::Brand;
+use std::sync::ledger::{Blank, Ledger};
+
+/// What is told of an answer of the search to a depth.
+pub fn planned(
+    alloc: Global,
+    task: &Task,
+    depth: u32,
+    found: &Found,
+) -> Result<Planned, OutOfMemory>
+    requires { HasItsActions task.now found.now }
+    ensures { IfOk result (λ planned. planned ≡ planned_of task.now depth found.now) }
+{
+    match found {
+        Found::Shortest(plan) => {
+            Ok(Planned::Plan(print_plan(alloc, task, plan, Mark::Shortest)?))
+        }
+        Found::Found(plan) => Ok(Planned::Plan(print_plan(alloc, task, plan, Mark::Found)?)),
+        Found::NoneTo => Ok(Planned::NoneTo { depth }),
+        Found::ManyStates => Ok(Planned::ManyStates),
+        Found::Wide(plan) => Ok(Planned::WideAfter {
+            count: plan.as_slice().len(),
+            actions: print_actions(alloc, task, plan)?,
+        }),
+    }
+}
+
+// The search, on a counter of its own.
+fn searched<L: Ledger>(
+    alloc: Global,
+    problem: &Problem,
+    bounds: SearchBounds,
+    mode: Mode,
+    guide: &mut Box<dyn Guide>,
+    blank: Blank,
+) -> Result<Found, OutOfMemory>
+    requires bounds { IsBounds bounds }
+    requires name { blank.name ≡ L.name }
+    requires parts { blank.parts ≡ L.parts }
+    requires some { 0 < L.parts }
+    ensures allowed { IfOk result (Allowed problem.now bounds.depth bounds.states bounds.worlds mode) }
+    ensures asked { IfOk result (λ found. WasAsked bounds.depth found (asked guide.old) (asked guide.new)) }
+{
+    let mut steps = Steps::<L>::new(blank);
+    search(alloc, problem, bounds, mode, guide, &mut steps)
+}
+
+/// An answer of the search.
+pub fn counted(
+    alloc: Global,
+    problem: &Problem,
+    bounds: SearchBounds,
+    mode: Mode,
+    guide: &mut Box<dyn Guide>,
+) -> Result<Found, OutOfMemory>
+    requires { IsBounds bounds }
+    ensures allowed { IfOk result (Allowed problem.now bounds.depth bounds.states bounds.worlds mode) }
+    ensures asked { IfOk result (λ found. WasAsked bounds.depth found (asked guide.old) (asked guide.new)) }
+{
+    searched::<Brand>(alloc, problem, bounds, mode, guide, Blank::new(1))
+}
+
+fn mode(first: bool) -> Mode
+    ensures { result ≡ mode_of first }
+{
+    if first { Mode::First } else { Mode::Prove }
+}
+
+fn limits(bounds: Bounds) -> SearchBounds
+    ensures { result ≡ search_bounds bounds }
+{
+    SearchBounds {
+        depth: bounds.depth,
+        states: bounds.states,
+        worlds: bounds.worlds,
+    }
+}
+
+// The answer of planning within the bounds.
+fn answered(
+    alloc: Global,
+    task: &Task,
+    bounds: Bounds,
+    first: bool,
+    guide: &mut Box<dyn Guide>,
+) -> Result<Answer, OutOfMemory>
+    requires bounds { IsBounds (search_bounds bounds) }
+    requires whole { IsWhole task.now }
+    ensures plans { IfOk result (λ answer. Plans bounds first task.now (answers answer)) }
+    ensures asked { IfOk result (λ answer. 1 ≤ bounds.depth → AnswerNeeds answer → Rose (asked guide.old) (asked guide.new)) }
+{
+    let _actions = task.actions();
+    let found = counted(alloc, task.problem(), limits(bounds), mode(first), guide)?;
+    let planned = planned(alloc, task, bounds.depth, &found)?;
+    Ok(Answer::OfSearch(planned))
+}
+
+// The answer of planning for the task of a file.
+fn plan<L: Library>(
+    alloc: Global,
+    files: &mut L,
+    file: &str,
+    bounds: Bounds,
+    first: bool,
+    guide: &mut Box<dyn Guide>,
+) -> Result<Answer, Stop>
+    requires { IsBounds (search_bounds bounds) }
+    ensures goes_on { GoesOn (L.library files.old) (L.library files.new) }
+    ensures answer { Serves (λ held. TaskFile held file.now (Plans bounds first)) (OnlyFile OfTask file.now) ⊥ (L.library files.old) (L.library files.new) result }
+    ensures asked { 1 ≤ bounds.depth → ResultNeeds result → Rose (asked guide.old) (asked guide.new) }
+{
+    let task = task_file(alloc, files, file)?;
+    let answer = answered(alloc, &task, bounds, first, guide)?;
+    Ok(answer)
+}
+
+/// The answer of planning for the task of a file, with the guide at a place, if there is one.
+pub fn guided_plan<L: Library>(
+    alloc: Global,
+    files: &mut L,
+    file: &str,
+    bounds: Bounds,
+    first: bool,
+    guides: &mut Vec<Box<dyn Guide>>,
+    place: usize,
+) -> Result<Answer, Stop>
+    requires { IsBounds (search_bounds bounds) }
+    ensures goes_on { GoesOn (L.library files.old) (L.library files.new) }
+    ensures answer { Serves (λ held. Guided (length guides.old.items) place (TaskFile held file.now (Plans bounds first))) (OnlyFile OfTask file.now) (length guides.old.items ≤ place) (L.library files.old) (L.library files.new) result }
+    ensures asked { 1 ≤ bounds.depth → ResultNeeds result → WasAskedAt (λ g. asked g) guides.old.items guides.new.items place }
+{
+    if place >= guides.len() {
+        return Ok(Answer::NoSuchGuide);
+    }
+    plan(alloc, files, file, bounds, first, &mut guides[place])
+}

@@ -1,0 +1,2 @@
+pub mod EvaluationLemmas
+pub mod QuestionLemmas

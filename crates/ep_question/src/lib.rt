@@ -1,0 +1,8 @@
+//! The commands with a task and one plan: `validate`, `eval`, `state` and `contract`.
+#![tactic(auto)]
+
+mod one_plan;
+mod question;
+
+pub use one_plan::answer_question;
+pub use question::Question;

@@ -1,0 +1,164 @@
+// The commands with a task and one plan.
+ghost use Rattle.std.specs.Prelude.{◌≡◌, ◌<◌, ◌≤◌, All, count_by, length, string_bytes, IfOk};
+ghost use Rattle.hex.specs.Hex.{encode_lower};
+ghost use Rattle.ep_canon.specs.Bytes.{bytes_of};
+ghost use Rattle.ep_plan.specs.Runs.{AreOf};
+ghost use Rattle.ep_plan.specs.Verdicts.{IsVerdict};
+ghost use Rattle.ep_theory.specs.Fits.{Fits};
+ghost use Rattle.ep_truth.specs.Labels.{value_at};
+ghost use Rattle.ep_question.specs.Questions.{PlanWork};
+ghost use Rattle.ep_reading.specs.PlanFile.{PlanFile};
+ghost use Rattle.ep_reading.specs.PlanFile.{AreItsActions};
+ghost use Rattle.ep_question.specs.Questions.{Asks, Contractions, Evals, Evaluates, Shows, ShowsContraction, States, Validates};
+ghost use Rattle.ep_reading.specs.Run.{GoesOn};
+ghost use Rattle.ep_reading.specs.Served.{answers};
+ghost use Rattle.ep_reading.specs.Steps.{OnlyPlan, Serves, Tells};
+ghost use Rattle.ep_question.specs.Questions.{TaskAndPlan};
+ghost use Rattle.ep_answer.specs.declared.cause.Subject.TheVariants.{Plan as OfPlan};
+
+use crate::question::Question;
+use ep_answer::{Answer, Stop, Subject, Whose};
+use ep_canon::{Canon, contract};
+use ep_ground::{Task, print_state};
+use ep_io::Library;
+use ep_kripke::State;
+use ep_logic::{Bits, Formula, OutOfMemory};
+use ep_problem::Plan;
+use ep_reading::{formula_word, plan_file, ran, task_file, verdict};
+use ep_truth::label;
+use std::alloc::Global;
+
+// ---- eval
+
+// At how many of the places the value is true.
+fn true_places(row: &Bits, places: &[u32]) -> u64
+    requires { All (λ w. w < length row.now) places.now }
+    ensures { result ≡ count_by (value_at row.now) places.now }
+{
+    let mut count = 0;
+    for place in places {
+        if row.get(*place) {
+            count += 1;
+        }
+    }
+    count
+}
+
+fn evaluated(alloc: Global, state: &State, formula: &Formula) -> Result<Answer, OutOfMemory>
+    requires { Fits state.now formula.now }
+    ensures { IfOk result (λ answer. Evaluates formula.now state.now (answers answer)) }
+{
+    let row = label(alloc, state, formula)?;
+    let designated = state.designated();
+    Ok(Answer::TrueAt {
+        count: true_places(&row, designated),
+        designated: designated.len() as u64,
+    })
+}
+
+fn evals(alloc: Global, task: &Task, plan: &Plan, word: &str) -> Result<Answer, Stop>
+    requires length { length plan.now ≤ 262144 }
+    requires actions { AreItsActions task.now plan.now }
+    ensures { Tells (Evals word.now task.now plan.now) result }
+{
+    let formula = formula_word(alloc, task, word)?;
+    let state = ran(alloc, task, Whose::Only, plan)?;
+    let answer = evaluated(alloc, &state, &formula)?;
+    Ok(answer)
+}
+
+// ---- state
+
+fn shows(alloc: Global, task: &Task, plan: &Plan) -> Result<Answer, Stop>
+    requires length { length plan.now ≤ 262144 }
+    requires actions { AreItsActions task.now plan.now }
+    ensures { Tells (States task.now plan.now) result }
+{
+    let state = ran(alloc, task, Whose::Only, plan)?;
+    let text = print_state(alloc, task, &state)?;
+    Ok(Answer::Shown(text))
+}
+
+// ---- contract
+
+// Bytes in hexadecimal.
+fn hexadecimal(alloc: Global, bytes: &[u8]) -> Result<String, OutOfMemory>
+    ensures { IfOk result (λ text. string_bytes text ≡ encode_lower bytes.now) }
+{
+    Ok(hex::encode(alloc, bytes)?)
+}
+
+// The canonical bytes in hexadecimal.
+fn digits(alloc: Global, canon: &Canon) -> Result<String, OutOfMemory>
+    ensures { IfOk result (λ text. string_bytes text ≡ encode_lower (bytes_of canon.now)) }
+{
+    let bytes = canon.bytes(alloc)?;
+    hexadecimal(alloc, bytes.as_slice())
+}
+
+fn contraction(alloc: Global, task: &Task, state: &State) -> Result<Answer, OutOfMemory>
+    requires worlds { state.now.worlds ≤ 4096 }
+    requires agents { state.now.agents ≡ length task.now.agents }
+    requires atoms { state.now.atoms ≡ length task.now.atoms }
+    ensures { IfOk result (λ answer. ShowsContraction task.now state.now (answers answer)) }
+{
+    let canon = contract(alloc, state)?;
+    let bytes = digits(alloc, &canon)?;
+    let state = print_state(alloc, task, canon.state())?;
+    Ok(Answer::Contraction { state, bytes })
+}
+
+fn contracts(alloc: Global, task: &Task, plan: &Plan) -> Result<Answer, Stop>
+    requires length { length plan.now ≤ 262144 }
+    requires actions { AreItsActions task.now plan.now }
+    ensures { Tells (Contractions task.now plan.now) result }
+{
+    let state = ran(alloc, task, Whose::Only, plan)?;
+    let answer = contraction(alloc, task, &state)?;
+    Ok(answer)
+}
+
+// ---- all of them
+
+fn asked(alloc: Global, task: &Task, plan: &Plan, question: Question) -> Result<Answer, Stop>
+    requires length { length plan.now ≤ 262144 }
+    requires actions { AreItsActions task.now plan.now }
+    ensures { Tells (Asks question.entry task.now plan.now) result }
+{
+    match question {
+        Question::Validate => Ok(Answer::Judged(verdict(alloc, task, plan)?)),
+        Question::Eval(word) => evals(alloc, task, plan, word),
+        Question::State => shows(alloc, task, plan),
+        Question::Contract => contracts(alloc, task, plan),
+    }
+}
+
+// What is asked of the task and the plan of a word.
+fn of_task<L: Library>(
+    alloc: Global,
+    files: &mut L,
+    task: &Task,
+    word: &str,
+    question: Question,
+) -> Result<Answer, Stop>
+    ensures goes_on { GoesOn (L.library files.old) (L.library files.new) }
+    ensures answer { Serves (λ held. PlanFile held OfPlan word.now task.now (Asks question.entry task.now)) (OnlyPlan OfPlan word.now) ⊥ (L.library files.old) (L.library files.new) result }
+{
+    let plan = plan_file(alloc, files, Subject::Plan, task, word)?;
+    asked(alloc, task, &plan, question)
+}
+
+/// What is asked of the task of a file and the plan of a word.
+pub fn answer_question<L: Library>(
+    alloc: Global,
+    files: &mut L,
+    file: &str,
+    word: &str,
+    question: Question,
+) -> Result<Answer, Stop>
+    ensures goes_on { GoesOn (L.library files.old) (L.library files.new) }
+    ensures answer { Serves (λ held. PlanWork held file.now word.now (Asks question.entry)) (TaskAndPlan file.now word.now) ⊥ (L.library files.old) (L.library files.new) result }
+{
+    let task = task_file(alloc, files, file)?;
+    of_task(alloc, files, &task, word, question)
+}

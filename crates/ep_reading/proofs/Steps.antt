@@ -1,0 +1,174 @@
+-- How a step of the work goes on, and how it ends the work.
+use Rattle.std.proofs.Common.{◌≡◌, ℕ, List, ◌≤◌, length, Option, Some, None, MatchOption, ◌⊎◌, inl, inr, refl, sym, ap, subst, ◌∙◌, arith}
+use Rattle.std.proofs.lemmas.List.{length-map}
+use Rattle.ep_lex.specs.Tokens.{Lexed, spellings, spelling}
+use Rattle.ep_tree.specs.Formed.{IsFormedTask}
+use Rattle.ep_tree.specs.Marks.{IsShallow}
+use Rattle.ep_tree.specs.Grammar.{Grammar, tasks, spelling_of, Reads}
+use Rattle.ep_tree.specs.declared.tree.TaskTree.{TaskTree}
+use Rattle.ep_types.specs.Places.{Uses}
+use Rattle.ep_types.specs.Faults.{first_fault}
+use Rattle.ep_types.specs.Tasks.{HasNoFault, declarations, task_uses}
+use Rattle.ep_types.specs.declared.fault.TypeFault.{TypeFault}
+use Rattle.ep_parts.specs.Task.{GroundTask}
+use Rattle.ep_tree.specs.Grammar.{IsRead}
+use Rattle.ep_ground.specs.Grounding.{fault_of, task_of}
+use Rattle.ep_parts.specs.declared.fault.GroundError.{GroundError}
+use Rattle.ep_parts.specs.declared.fault.GroundError.TheVariants as fault
+use Rattle.ep_io.specs.Library.{FileMap, file_of}
+use Rattle.ep_answer.specs.declared.answer.Answer.TheVariants.{Refused}
+use Rattle.ep_answer.specs.declared.answer.Stop.{Stop}
+use Rattle.ep_answer.specs.declared.answer.Stop.TheVariants.{Told, OutOfMemory}
+use Rattle.ep_answer.specs.declared.cause.Cause.TheVariants as cause
+use Rattle.ep_answer.specs.declared.cause.Subject.{Subject}
+use Rattle.ep_answer.specs.declared.cause.Subject.TheVariants.{Task}
+use Rattle.ep_reading.specs.Served.{Outcome, AreLexed, Sized, Fetched, Tokenized, Parsed, Judged, TellsCause, Grounded, TaskRead, answers, place_at}
+use Rattle.ep_reading.specs.Steps.{IsTreeOf, IsGroundOf, IsTaskOf, StopsBy, nothing_behind}
+
+-- ---- what may stand behind a step
+
+pub Sized-weaker : (s : Subject) (bytes : List ℕ) (P Q : List ℕ → Outcome → Type 0) (o : Outcome)
+    → ((b : List ℕ) → P b o → Q b o) → Sized s bytes P o → Sized s bytes Q o
+Sized-weaker s bytes P Q o f (inl long) = inl long
+Sized-weaker s bytes P Q o f (inr p) = inr (p.0, f bytes p.1)
+
+fetched_option : (s : Subject) (P Q : List ℕ → Outcome → Type 0) (o : Outcome) (file : Option (List ℕ))
+    → ((b : List ℕ) → P b o → Q b o)
+    → MatchOption file (o ≡ answers (Refused s cause.NoSuchFile)) (λ bytes. Sized s bytes P o)
+    → MatchOption file (o ≡ answers (Refused s cause.NoSuchFile)) (λ bytes. Sized s bytes Q o)
+fetched_option s P Q o None f e = e
+fetched_option s P Q o (Some bytes) f h = Sized-weaker s bytes P Q o f h
+
+pub Fetched-weaker : (files : FileMap) (s : Subject) (name : List ℕ) (P Q : List ℕ → Outcome → Type 0) (o : Outcome)
+    → ((b : List ℕ) → P b o → Q b o) → Fetched files s name P o → Fetched files s name Q o
+Fetched-weaker files s name P Q o f (inl stops) = inl stops
+Fetched-weaker files s name P Q o f (inr h) = inr (fetched_option s P Q o (file_of files name) f h)
+
+pub Tokenized-weaker : (s : Subject) (bytes : List ℕ) (P Q : Lexed → Outcome → Type 0) (o : Outcome)
+    → ((found : Lexed) → AreLexed bytes found → P found o → Q found o) → Tokenized s bytes P o → Tokenized s bytes Q o
+Tokenized-weaker s bytes P Q o f (inl stray) = inl stray
+Tokenized-weaker s bytes P Q o f (inr (inl many)) = inr (inl many)
+Tokenized-weaker s bytes P Q o f (inr (inr p)) = inr (inr (p.0, p.1, f p.0 p.1 p.2))
+
+pub Parsed-weaker : {A : Type 0} (kind : Grammar A) (s : Subject) (bytes : List ℕ) (found : Lexed) (P Q : A → Outcome → Type 0) (o : Outcome)
+    → ((tree : A) → Reads kind (spellings bytes found.tokens) tree → P tree o → Q tree o)
+    → Parsed kind s bytes found P o → Parsed kind s bytes found Q o
+Parsed-weaker kind s bytes found P Q o f (inl syntax) = inl syntax
+Parsed-weaker kind s bytes found P Q o f (inr (inl deep)) = inr (inl deep)
+Parsed-weaker kind s bytes found P Q o f (inr (inr p)) = inr (inr (p.0, p.1, f p.0 p.1 p.2))
+
+judged_option : (s : Subject) (found : Lexed) (first : Option (TypeFault × ℕ)) (P Q : Outcome → Type 0) (o : Outcome) → (P o → Q o)
+    → MatchOption first (P o) (λ fault. o ≡ answers (Refused s (cause.Mistyped fault.0 (place_at found fault.1))))
+    → MatchOption first (Q o) (λ fault. o ≡ answers (Refused s (cause.Mistyped fault.0 (place_at found fault.1))))
+judged_option s found None P Q o f h = f h
+judged_option s found (Some fault) P Q o f h = h
+
+pub Judged-weaker : (s : Subject) (found : Lexed) (uses : Uses) (P Q : Outcome → Type 0) (o : Outcome) → (P o → Q o)
+    → Judged s found uses P o → Judged s found uses Q o
+Judged-weaker s found uses P Q o f h = judged_option s found (first_fault uses) P Q o f h
+
+-- ---- the ground task of a tree
+
+ground_option : (found : Lexed) (tree : TaskTree) (first : Option GroundError) (P Q : GroundTask → Outcome → Type 0) (o : Outcome) → ((g : GroundTask) → P g o → Q g o)
+    → MatchOption first (P (task_of tree) o) (λ e. TellsCause found e o) → MatchOption first (Q (task_of tree) o) (λ e. TellsCause found e o)
+ground_option found tree None P Q o f h = f (task_of tree) h
+ground_option found tree (Some e) P Q o f h = h
+
+pub Grounded-weaker : (found : Lexed) (tree : TaskTree) (P Q : GroundTask → Outcome → Type 0) (o : Outcome) → ((g : GroundTask) → P g o → Q g o)
+    → Grounded found tree P o → Grounded found tree Q o
+Grounded-weaker found tree P Q o f h = ground_option found tree (fault_of (declarations tree) tree) P Q o f h
+
+pub Grounded-behind : (found : Lexed) (tree : TaskTree) (g : GroundTask) (P : GroundTask → Outcome → Type 0) (o : Outcome)
+    → fault_of (declarations tree) tree ≡ None → g ≡ task_of tree → P g o → Grounded found tree P o
+Grounded-behind found tree g P o none whole h =
+    let M : Option GroundError → Type 0 = λ first. MatchOption first (P (task_of tree) o) (λ e. TellsCause found e o) in
+    subst M (sym none) (subst (λ t. P t o) whole h)
+
+-- the fault that is told is the tree's
+pub grounded_fault : (found : Lexed) (tree : TaskTree) (e : GroundError) (stop : Stop)
+    → (e ≡ fault.OutOfMemory) ⊎ (fault_of (declarations tree) tree ≡ Some e) → StopsBy (TellsCause found e) stop → StopsBy (Grounded found tree nothing_behind) stop
+grounded_fault found tree e (Told answer) (inl none) h = absurd (subst (λ e. TellsCause found e (answers answer)) none h).1
+grounded_fault found tree e (Told answer) (inr is) h =
+    let M : Option GroundError → Type 0 = λ first. MatchOption first (nothing_behind (task_of tree) (answers answer)) (λ e. TellsCause found e (answers answer)) in
+    subst M (sym is) h
+grounded_fault found tree e OutOfMemory is h = tt
+
+-- ---- the task of some bytes
+
+abbrev Typed : Lexed → (GroundTask → Outcome → Type 0) → TaskTree → Outcome → Type 0
+Typed found P tree = Judged Task found (task_uses tree) (Grounded found tree P)
+
+pub TaskRead-weaker : (bytes : List ℕ) (P Q : GroundTask → Outcome → Type 0) (o : Outcome)
+    → ((g : GroundTask) → P g o → Q g o) → TaskRead bytes P o → TaskRead bytes Q o
+unfolding TaskRead
+TaskRead-weaker bytes P Q o f h =
+    Tokenized-weaker Task bytes (λ found. Parsed tasks Task bytes found (Typed found P)) (λ found. Parsed tasks Task bytes found (Typed found Q)) o
+    (λ found lexed. Parsed-weaker tasks Task bytes found (Typed found P) (Typed found Q) o
+    (λ tree reads. Judged-weaker Task found (task_uses tree) (Grounded found tree P) (Grounded found tree Q) o
+    (Grounded-weaker found tree P Q o f))) h
+
+judged_none : (found : Lexed) (tree : TaskTree) (P : GroundTask → Outcome → Type 0) (o : Outcome) → HasNoFault tree → Grounded found tree P o → Typed found P tree o
+judged_none found tree P o none h =
+    let M : Option (TypeFault × ℕ) → Type 0 = λ first. MatchOption first (Grounded found tree P o) (λ fault. o ≡ answers (Refused Task (cause.Mistyped fault.0 (place_at found fault.1)))) in
+    subst M (sym none) h
+
+pub TaskRead-tree : (bytes : List ℕ) (found : Lexed) (tree : TaskTree) (P : GroundTask → Outcome → Type 0) (o : Outcome)
+    → IsTreeOf bytes found tree → Grounded found tree P o → TaskRead bytes P o
+unfolding TaskRead
+TaskRead-tree bytes found tree P o t h = inr (inr (found, t.lexed, inr (inr (tree, t.reads, judged_none found tree P o t.typed h))))
+
+pub TaskRead-behind : (bytes : List ℕ) (g : GroundTask) (P : GroundTask → Outcome → Type 0) (o : Outcome) → IsTaskOf bytes g → P g o → TaskRead bytes P o
+TaskRead-behind bytes g P o t h =
+    TaskRead-tree bytes t.found t.tree P o t.is_tree (Grounded-behind t.found t.tree g P o t.is_ground.sound t.is_ground.whole h)
+
+-- ---- where the reading of a task ends
+
+pub stops_at_tokens : (bytes : List ℕ) (stop : Stop) → StopsBy (Tokenized Task bytes nothing_behind) stop → StopsBy (TaskRead bytes nothing_behind) stop
+unfolding TaskRead
+stops_at_tokens bytes (Told answer) h =
+    Tokenized-weaker Task bytes nothing_behind (λ found. Parsed tasks Task bytes found (Typed found nothing_behind)) (answers answer) (λ found lexed none. absurd none) h
+stops_at_tokens bytes OutOfMemory h = h
+
+pub stops_at_tree : (bytes : List ℕ) (found : Lexed) (stop : Stop) → AreLexed bytes found
+    → StopsBy (Parsed tasks Task bytes found nothing_behind) stop → StopsBy (TaskRead bytes nothing_behind) stop
+unfolding TaskRead
+stops_at_tree bytes found (Told answer) lexed h =
+    inr (inr (found, lexed, Parsed-weaker tasks Task bytes found nothing_behind (Typed found nothing_behind) (answers answer) (λ tree reads none. absurd none) h))
+stops_at_tree bytes found OutOfMemory lexed h = h
+
+pub stops_at_types : (bytes : List ℕ) (found : Lexed) (tree : TaskTree) (stop : Stop) → AreLexed bytes found → Reads tasks (spellings bytes found.tokens) tree
+    → StopsBy (Judged Task found (task_uses tree) (nothing_behind tree)) stop → StopsBy (TaskRead bytes nothing_behind) stop
+unfolding TaskRead
+stops_at_types bytes found tree (Told answer) lexed reads h =
+    inr (inr (found, lexed, inr (inr (tree, reads, Judged-weaker Task found (task_uses tree) (nothing_behind tree) (Grounded found tree nothing_behind) (answers answer) (λ none. absurd none) h))))
+stops_at_types bytes found tree OutOfMemory lexed reads h = h
+
+pub stops_at_ground : (bytes : List ℕ) (found : Lexed) (tree : TaskTree) (stop : Stop) → IsTreeOf bytes found tree
+    → StopsBy (Grounded found tree nothing_behind) stop → StopsBy (TaskRead bytes nothing_behind) stop
+stops_at_ground bytes found tree (Told answer) t h = TaskRead-tree bytes found tree nothing_behind (answers answer) t h
+stops_at_ground bytes found tree OutOfMemory t h = h
+
+-- ---- what is known of the tree of a text
+
+pub tree_of : (bytes : List ℕ) (found : Lexed) (tree typed : TaskTree) → AreLexed bytes found → Reads tasks (spellings bytes found.tokens) tree
+    → (typed ≡ tree) × HasNoFault tree → IsTreeOf bytes found typed
+tree_of bytes found tree typed lexed reads h = record {
+  lexed = lexed;
+  reads = subst (Reads tasks (spellings bytes found.tokens)) (sym h.0) reads;
+  typed = subst HasNoFault (sym h.0) h.1;
+}
+
+pub tree_is_read : (bytes : List ℕ) (found : Lexed) (tree : TaskTree) → IsTreeOf bytes found tree → IsRead tree
+tree_is_read bytes found tree t =
+    let count : length (spelling_of tasks tree) ≡ length found.tokens = ap length t.reads.spelled ∙ length-map found.tokens (spelling bytes) in
+    record {
+      formed = t.reads.formed;
+      shallow = t.reads.shallow;
+      few = omega (arith, count, t.lexed.few);
+    }
+
+pub ground_formed : (tree : TaskTree) (g : GroundTask) → g ≡ task_of tree → IsFormedTask tree → IsFormedTask g.tree
+ground_formed tree g whole h = subst IsFormedTask (sym (ap (λ (t : GroundTask). t.tree) whole)) h
+
+pub ground_shallow : (tree : TaskTree) (g : GroundTask) → g ≡ task_of tree → IsShallow (tasks.marks tree) → IsShallow (tasks.marks g.tree)
+ground_shallow tree g whole h = subst (λ t. IsShallow (tasks.marks t)) (sym (ap (λ (t : GroundTask). t.tree) whole)) h

@@ -1,0 +1,48 @@
+// The files that a command names.
+ghost use Rattle.std.specs.Prelude.{IfErr, MatchResult};
+ghost use Rattle.ep_reading.specs.Guides.{StopNeeds};
+ghost use Rattle.ep_reading.specs.Run.{GoesOn};
+ghost use Rattle.ep_reading.specs.Steps.{IsFetched, IsTaskFile, StopsAtFetch, StopsAtTask};
+
+use crate::read::read_task;
+use ep_answer::{Answer, Cause, Stop, Subject};
+use ep_ground::Task;
+use ep_io::{FetchError, Library};
+use std::alloc::Global;
+
+const FILE_LIMIT: u32 = 1_048_576;
+
+/// The bytes of a file.
+pub fn fetch_file<L: Library>(
+    alloc: Global,
+    files: &mut L,
+    subject: Subject,
+    name: &str,
+) -> Result<Vec<u8>, Stop>
+    ensures goes_on { GoesOn (L.library files.old) (L.library files.new) }
+    ensures fetched { MatchResult result
+        (λ bytes. IsFetched (L.library files.old) name.now bytes.items)
+        (StopsAtFetch (L.library files.old) (L.library files.new) subject name.now) }
+    ensures needs { IfErr result (λ stop. StopNeeds stop → ⊥) }
+{
+    let mut bytes = Vec::new(alloc);
+    match files.fetch(name, FILE_LIMIT, &mut bytes) {
+        Ok(()) => Ok(bytes),
+        Err(FetchError::Missing) => Err(Stop::Told(Answer::Refused(subject, Cause::NoSuchFile))),
+        Err(FetchError::TooLong) => Err(Stop::Told(Answer::Refused(subject, Cause::TooLong))),
+        Err(FetchError::Failed) => Err(Stop::Told(Answer::Unreadable(subject))),
+        Err(FetchError::OutOfMemory) => Err(Stop::OutOfMemory),
+    }
+}
+
+/// The ground task of a file.
+pub fn task_file<L: Library>(alloc: Global, files: &mut L, name: &str) -> Result<Task, Stop>
+    ensures goes_on { GoesOn (L.library files.old) (L.library files.new) }
+    ensures task { MatchResult result
+        (IsTaskFile (L.library files.old) name.now)
+        (StopsAtTask (L.library files.old) (L.library files.new) name.now) }
+    ensures needs { IfErr result (λ stop. StopNeeds stop → ⊥) }
+{
+    let bytes = fetch_file(alloc, files, Subject::Task, name)?;
+    read_task(alloc, &bytes)
+}

@@ -35,6 +35,7 @@ fn groundable(
 
 // The state of the task's lawful form, with this law and this formula of the designated worlds.
 fn state_between(
+    rt: &impl Abort,
     alloc: Global,
     universe: &Universe,
     law: &FormulaTree,
@@ -44,6 +45,8 @@ fn state_between(
     requires designated { IsGroundable universe.now designated.now }
 {
     let typed = universe.typed();
+    let fluents = typed.tree().fluents.as_slice().len();
+    assert!(rt; fluents <= 262_144);
     let agents = objects_of(alloc, typed, b"agent")?.as_slice().len();
     let atoms = atom_count(alloc, typed)?;
     let InitTree::Lawful {
@@ -82,7 +85,7 @@ fn state_under(
     requires { IsGroundable universe.now law.now }
 {
     let designated = groundable(rt, alloc, universe, designated)?;
-    let state = state_between(alloc, universe, law, &designated);
+    let state = state_between(rt, alloc, universe, law, &designated);
     discard_formula(designated);
     state
 }

@@ -26,7 +26,7 @@ pub returns : goal.returns
 returns g c =
     let d = c.args.universe.now in
     let f = c.in_ok-tree.tree in
-    let read = c.in_ok-tree.ensures.read in
+    let read = c.in_ok-tree.ensures in
     let fine = no_refusal (first_fault (formula_uses f (closed d))) (nat_lt 65536 (ground_count d f)) (formula_fault.TooLarge (first_token f)) c.in_ok-_form.ensures.allowed in
     record {
       buildable = c.read_forms_build.ensures d (closed d) f read.formed read.shallow fine.0 (small (ground_count d f) fine.1);

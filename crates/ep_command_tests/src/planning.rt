@@ -1,9 +1,7 @@
 // What `plan` and `trial` answer.
 
 use crate::memory::{is_told, library, sink, strings, tells_of_task};
-use crate::tasks::{
-    COIN, COIN0, FAR, KINDS, LETTER, LONE, LOOK, MSG, PAIR, SWAP, TWO, WAIT, WAYS,
-};
+use crate::tasks::{COIN, COIN0, FAR, KINDS, LETTER, LONE, LOOK, MSG, PAIR, SWAP, TWO, WAIT, WAYS};
 use ep_cli::{Status, run};
 use ep_guide::{Guide, View};
 use ep_io::{MemoryLibrary, MemorySink};

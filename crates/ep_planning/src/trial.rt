@@ -13,10 +13,10 @@ ghost use Rattle.ep_reading.specs.Steps.{Tells};
 
 use crate::plan::{counted, planned};
 use ep_answer::{Answer, Stop, Trial, TrialEnd};
+use ep_base::OutOfMemory;
 use ep_canon::contract;
 use ep_ground::Task;
 use ep_guide::Guide;
-use ep_base::OutOfMemory;
 use ep_reading::{read_task, verdict};
 use ep_search::{Answer as Found, Bounds as SearchBounds, Mode};
 use ep_trial::trial_text;

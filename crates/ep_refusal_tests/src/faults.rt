@@ -146,7 +146,12 @@ fn faults_of_tokens_and_nesting(rt: HostRuntime) -> Result<(), Fail> {
     let whole = nested(rt.alloc(), 63)?;
     answers(&rt, rt.alloc(), whole.as_bytes(), Status::No, "none to 0\n")?;
     let deep = nested(rt.alloc(), 64)?;
-    refuses(&rt, rt.alloc(), deep.as_bytes(), "too deep at token 102, line 10")?;
+    refuses(
+        &rt,
+        rt.alloc(),
+        deep.as_bytes(),
+        "too deep at token 102, line 10",
+    )?;
     refuses_goal(&rt, rt.alloc(), "heads ?", "stray byte at 150")?;
     refuses_goal(&rt, rt.alloc(), "not", "syntax at token 39, line 10")
 }

@@ -1,8 +1,8 @@
 -- What the builder of actions answers for parts that a body gives.
-use Rattle.std.proofs.Common.{◌≡◌, ◌≢◌, ℕ, zero, suc, ◌+◌, ◌*◌, ◌<◌, ◌≤◌, Bool, true, false, cond, not, ◌&&◌, ◌||◌, ◌==◌, Option, Some, None, is_some, option_map, option_and_then, Result, Ok, Err, IfOk, IfErr, OnOk, List, [], ◌∷◌, ◌++◌, length, map, get_or, position, refl, ap, sym, ◌∙◌, subst, arith, IsTrue, ⊎_elim, inl, inr, nat_lt, All}
+use Rattle.std.proofs.Common.{◌≡◌, ◌≢◌, ℕ, zero, suc, ◌+◌, ◌<◌, ◌≤◌, Bool, true, false, not, ◌&&◌, ◌||◌, ◌==◌, Option, Some, None, is_some, option_map, option_and_then, Result, Ok, Err, IfOk, IfErr, OnOk, List, [], ◌∷◌, ◌++◌, length, map, get_or, position, refl, ap, sym, ◌∙◌, subst, arith, ⊎_elim, nat_lt, All}
 use Rattle.std.specs.Option.{option_or}
 use Rattle.std.specs.List.{list_any, AllByRecursion}
-use Rattle.std.proofs.lemmas.Bool.{ne_eqb, true≢false}
+use Rattle.std.proofs.lemmas.Bool.{ne_eqb}
 use Rattle.std.proofs.lemmas.Bool.Decides.{nat_tests}
 use Rattle.std.proofs.lemmas.Option.{none-some}
 use Rattle.std.proofs.lemmas.List.{length-map, get_or-map}
@@ -19,7 +19,7 @@ use Rattle.ep_event.specs.declared.parts.ActionParts.{ActionParts}
 use Rattle.ep_event.specs.declared.refusal.ActionError.{ActionError}
 use Rattle.ep_event.specs.declared.refusal.ActionError.TheVariants as error
 use Rattle.ep_event.specs.Built.{set_of, event_of, has_link, has_event, built}
-use Rattle.ep_event.specs.Refusals.{Answers, refusal_of, atom_twice, repeated_atom, sets_at, when}
+use Rattle.ep_event.specs.Refusals.{Answers, refusal_of, atom_twice, repeated_atom, sets_at}
 use Rattle.ep_event.proofs.BuiltLemmas.{are_fine}
 use Rattle.ep_theory.specs.Rising.{IsIn}
 use Rattle.ep_theory.specs.Events.{Event, EventModel}
@@ -35,15 +35,13 @@ use Rattle.ep_tree.specs.declared.tree.PairsTree.TheVariants.{Same}
 use Rattle.ep_types.specs.Names.{Text}
 use Rattle.ep_types.specs.Tasks.{event_names}
 use Rattle.ep_types.specs.declared.scope.Declared.{Declared}
-use Rattle.ep_universe.specs.Limits.{IsWithin}
 use Rattle.ep_universe.specs.Objects.{Binding, agents_of}
-use Rattle.ep_parts.specs.declared.body_error.BodyError.{BodyError}
 use Rattle.ep_parts.specs.Actions.{assigns_twice, events_of, event_of as event_at}
 use Rattle.ep_parts.specs.Answers.{Refuses, IsOfBody, of_body}
 use Rattle.ep_parts.specs.Bodies.{AreBuildableEvents}
-use Rattle.ep_parts.specs.Links.{agent_count, place_of, linked, links_of, designated_of, last_pairs, written_pairs}
+use Rattle.ep_parts.specs.Links.{agent_count, place_of, linked, links_of, designated_of, last_pairs}
 use Rattle.ep_parts.specs.Parts.{AreParts}
-use Rattle.ep_parts.specs.Made.{made_links, event, event_link, event_links, agent_pairs}
+use Rattle.ep_parts.specs.Made.{made_links, event, event_link, agent_pairs}
 use Rattle.ep_parts.proofs.MadeLemmas.{no_position, place_below, pairs_below, few_of_agent, few_made, from_made}
 use Rattle.ep_parts.proofs.RepeatLemmas.{firsts, none_repeated, one_repeated}
 

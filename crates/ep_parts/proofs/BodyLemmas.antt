@@ -1,17 +1,15 @@
 -- What a schema and an initial state that were read and have no fault are made of.
-use Rattle.std.proofs.Common.{◌≡◌, ◌≢◌, ℕ, zero, suc, ◌+◌, ◌<◌, ◌≤◌, Bool, true, false, cond, ◌||◌, nat_le, nat_eq, IsTrue, Option, Some, None, List, [], ◌∷◌, ◌++◌, length, map, get_or, All, refl, ap, sym, ◌∙◌, subst, arith, append_assoc, append-nil}
-use Rattle.std.specs.Prelude.{AllPairs}
-use Rattle.std.specs.List.{flat_map, list_any}
+use Rattle.std.proofs.Common.{◌≡◌, ◌≢◌, ℕ, zero, suc, ◌+◌, ◌<◌, ◌≤◌, Bool, true, false, ◌||◌, nat_eq, None, List, [], ◌∷◌, ◌++◌, length, map, get_or, All, ap, sym, subst, arith, append_assoc, append-nil}
+use Rattle.std.specs.List.{flat_map}
 use Rattle.std.specs.Cmp.Lexicographic.{bytes_decides}
 use Rattle.std.proofs.lemmas.List.{length-map, length-append}
-use Rattle.std.proofs.lemmas.List.Elements.{All-nil, All-cons, All-head, All-tail, All-get_or}
+use Rattle.std.proofs.lemmas.List.Elements.{All-nil, All-cons, All-head, All-tail}
 use Rattle.std.proofs.lemmas.List.Quantifiers.{all_pairs_push}
 use Rattle.ep_binding.specs.Bindings.{IsApart}
 use Rattle.ep_binding.proofs.ApartLemmas.{pairs-nil}
 use Rattle.ep_tree.specs.declared.terminal.Terminal.{Terminal}
 use Rattle.ep_tree.specs.declared.terminal.Terminal.TheVariants as the
 use Rattle.ep_tree.specs.declared.tree.Name.{Name}
-use Rattle.ep_tree.specs.declared.tree.AtomTree.{AtomTree}
 use Rattle.ep_tree.specs.declared.tree.PairTree.{PairTree}
 use Rattle.ep_tree.specs.declared.tree.PairsTree.{PairsTree}
 use Rattle.ep_tree.specs.declared.tree.PairsTree.TheVariants as pairs
@@ -26,19 +24,19 @@ use Rattle.ep_tree.specs.declared.tree.SchemaTree.{SchemaTree}
 use Rattle.ep_tree.specs.declared.tree.FormulaTree.{FormulaTree}
 use Rattle.ep_tree.specs.Marks.{Mark, IsShallow, fixed, named}
 use Rattle.ep_tree.specs.Spelling as spell
-use Rattle.ep_tree.specs.Formed.{Each, OneOrMore, IsFormedName, IsFormedFormula, IsFormedSet, IsFormedEvent, IsFormedLink, IsFormedBody, IsFormedSchema, IsFormedWorld}
+use Rattle.ep_tree.specs.Formed.{Each, OneOrMore, IsFormedName, IsFormedFormula, IsFormedSet, IsFormedEvent, IsFormedBody, IsFormedSchema, IsFormedWorld}
 use Rattle.ep_types.specs.Faults.{first_fault, first_row, table}
 use Rattle.ep_types.specs.declared.fault.TypeFault.TheVariants.{TooManyParameters, Duplicate}
 use Rattle.ep_types.specs.Names.{Text, is_text, is_among, names_of}
-use Rattle.ep_types.specs.Places.{Scope, Uses, both, at, each, closed, with_param, with_params, NewName, NewParam, UsedName}
+use Rattle.ep_types.specs.Places.{Scope, Uses, both, at, closed, with_param, with_params, NewName, NewParam, UsedName}
 use Rattle.ep_types.specs.Uses as uses
 use Rattle.ep_types.specs.Tasks as tasks
 use Rattle.ep_types.specs.declared.scope.Declared.{Declared}
 use Rattle.ep_universe.specs.Counts.{ground_count}
-use Rattle.ep_universe.specs.Sizes.{has_member, IsBuildable}
+use Rattle.ep_universe.specs.Sizes.{IsBuildable}
 use Rattle.ep_universe.proofs.TypedLemmas.{both-none, located-none, row-none}
 use Rattle.ep_parts.specs.Actions.{schema_bindings}
-use Rattle.ep_parts.specs.Bodies.{AreFewPairs, AreEnds, AreBuildableSets, IsBuildableEvent, AreBuildableEvents, IsBuildableBody, IsBuildableSchema, IsBuildableState}
+use Rattle.ep_parts.specs.Bodies.{AreFewPairs, AreBuildableSets, IsBuildableEvent, IsBuildableBody, IsBuildableSchema, IsBuildableState}
 use Rattle.ep_parts.specs.Faults.{event_count}
 use Rattle.ep_parts.specs.Written.{values_of, event_formulas, body_formulas}
 use Rattle.ep_parts.proofs.FormulaLemmas.{shallow-left, shallow-right, nested_formula, whole_formula, group_member}

@@ -1,14 +1,11 @@
 -- What a formula that was read and has no fault is made of.
-use Rattle.std.proofs.Common.{◌≡◌, ℕ, zero, suc, ◌+◌, ◌<◌, ◌≤◌, Bool, true, false, cond, ◌&&◌, nat_le, nat_eq, IsTrue, Option, Some, None, List, [], ◌∷◌, ◌++◌, length, map, refl, ap, sym, ◌∙◌, subst, arith}
-use Rattle.std.specs.Prelude.{IfSome}
+use Rattle.std.proofs.Common.{◌≡◌, ℕ, suc, ◌+◌, ◌≤◌, Bool, true, false, ◌&&◌, nat_le, IsTrue, None, List, [], ◌∷◌, ◌++◌, length, map, refl, ap, sym, ◌∙◌, subst, arith}
 use Rattle.std.specs.List.{list_all}
 use Rattle.std.proofs.lemmas.Bool.Decides.{nat_tests}
 use Rattle.std.proofs.lemmas.List.{length-map}
-use Rattle.std.proofs.lemmas.Option.{none-some}
 use Rattle.ep_logic.specs.Nodes.{largest}
 use Rattle.ep_tree.specs.declared.terminal.Terminal.{Terminal}
 use Rattle.ep_tree.specs.declared.terminal.Terminal.TheVariants as the
-use Rattle.ep_tree.specs.declared.tree.Name.{Name}
 use Rattle.ep_tree.specs.declared.tree.GroupTree.{GroupTree}
 use Rattle.ep_tree.specs.declared.tree.GroupTree.TheVariants.{All, Members}
 use Rattle.ep_tree.specs.declared.tree.FormulaTree.{FormulaTree, roll-FormulaTree}
@@ -18,7 +15,7 @@ use Rattle.ep_tree.specs.Marks.{Mark, IsShallow, fixed}
 use Rattle.ep_tree.specs.Spelling.{production, formula_at, formula, parts_at, between, behind, group, params}
 use Rattle.ep_tree.specs.Formed.{formed_layer, formed_formula, formed_params, formed_name, formed_group, is_true}
 use Rattle.ep_types.specs.Faults.{first_fault}
-use Rattle.ep_types.specs.Places.{Scope, Uses, both, at, each, with_params, Group, Knowledge, Agent}
+use Rattle.ep_types.specs.Places.{Scope, Uses, both, at, each, with_params, Group, Knowledge}
 use Rattle.ep_types.specs.Uses as uses
 use Rattle.ep_universe.specs.Sizes.{nesting, nesting_layer, is_whole, whole_layer, has_member}
 use Rattle.ep_universe.proofs.GroundLemmas.{left, right}

@@ -1,24 +1,22 @@
 -- What the builder of states answers for parts that an explicit state gives.
-use Rattle.std.proofs.Common.{◌≡◌, ◌≢◌, ℕ, zero, suc, ◌+◌, ◌*◌, ◌<◌, ◌≤◌, ◌↔◌, Bool, true, false, cond, not, ◌&&◌, ◌||◌, ◌==◌, Option, Some, None, option_map, Result, Ok, Err, IfOk, IfErr, List, [], ◌∷◌, ◌++◌, length, map, take, get_or, set, replicate, position, refl, ap, sym, ◌∙◌, subst, arith, IsTrue, ⊎_elim, inl, inr, nat_lt, eq-eqb}
+use Rattle.std.proofs.Common.{◌≡◌, ℕ, zero, suc, ◌+◌, ◌<◌, ◌≤◌, Bool, true, false, not, ◌||◌, ◌==◌, None, Result, Ok, Err, IfOk, IfErr, List, [], ◌∷◌, ◌++◌, length, map, get_or, set, replicate, position, refl, ap, sym, ◌∙◌, subst, arith, inl, inr, nat_lt, eq-eqb}
 use Rattle.std.specs.List.{AllByRecursion}
-use Rattle.std.specs.Ordering.{nat_cmp}
 use Rattle.std.proofs.lemmas.Bool.{ne_eqb, cases_eq, cases_lt}
 use Rattle.std.proofs.lemmas.Bool.Decides.{nat_tests}
 use Rattle.std.proofs.lemmas.Option.{none-some}
-use Rattle.std.proofs.lemmas.List.{length-map, get_or-map, map-append, take_more, same_lists, get_or_past, length-set, length-replicate, get_or-replicate, get_or-set_same, get_or-set_other}
+use Rattle.std.proofs.lemmas.List.{length-map, same_lists, get_or_past, length-set, length-replicate, get_or-replicate, get_or-set_same, get_or-set_other}
 use Rattle.std.proofs.lemmas.List.Folds.{list_any-append}
 use Rattle.ep_logic.specs.declared.ids.WorldId.{WorldId}
 use Rattle.ep_theory.specs.Rising.{IsIn, IsRising}
 use Rattle.ep_theory.specs.Kripke.{Kripke, IsState, pair_cmp}
-use Rattle.ep_theory.specs.Numbers.{numbers_where, pairs_where, has_number, has_pair, table}
-use Rattle.ep_theory.proofs.Lists.{from_map, IsIn-map, All-from_each, equal_from_test, test_itself}
-use Rattle.ep_theory.proofs.Filters.{IsIn-at}
+use Rattle.ep_theory.specs.Numbers.{has_number, has_pair, table}
+use Rattle.ep_theory.proofs.Lists.{from_map, IsIn-map, All-from_each, test_itself}
 use Rattle.ep_theory.proofs.NumbersLemmas.{length-table, get_or-table, from_table, in_numbers, from_numbers, in_pairs, from_pairs, rising_numbers, rising_pairs, to_has_number, from_has_number, to_has_pair, from_has_pair}
 use Rattle.ep_kripke.specs.declared.parts.Link.{Link}
 use Rattle.ep_kripke.specs.declared.parts.StateParts.{StateParts}
 use Rattle.ep_kripke.specs.declared.parts.StateError.{StateError}
 use Rattle.ep_kripke.specs.declared.parts.StateError.TheVariants as error
-use Rattle.ep_kripke.specs.Parts.{link, world, IsMadeOf, IsRefusal, fault_of, when, is_world, first_some}
+use Rattle.ep_kripke.specs.Parts.{link, world, IsMadeOf, IsRefusal, fault_of, is_world}
 use Rattle.ep_kripke.proofs.SameStates.{one_state}
 use Rattle.ep_tree.specs.declared.tree.Name.{Name}
 use Rattle.ep_tree.specs.declared.tree.LinkTree.{LinkTree}
@@ -31,8 +29,8 @@ use Rattle.ep_universe.specs.Objects.{agents_of}
 use Rattle.ep_universe.specs.Atoms.{atoms_of}
 use Rattle.ep_parts.specs.Bodies.{IsBuildableState}
 use Rattle.ep_parts.specs.Initial.{explicit_state, truth_at}
-use Rattle.ep_parts.specs.Links.{agent_count, place_of, linked, links_of, designated_of, last_pairs, written_pairs}
-use Rattle.ep_parts.specs.Made.{made_links, world_link, world_links, agent_pairs}
+use Rattle.ep_parts.specs.Links.{agent_count, place_of, linked, links_of, designated_of, last_pairs}
+use Rattle.ep_parts.specs.Made.{world_link, agent_pairs}
 use Rattle.ep_parts.specs.Parts.{AreStateParts}
 use Rattle.ep_parts.proofs.MadeLemmas.{no_position, place_below, pairs_below, few_of_agent, few_made, from_made, to_made}
 

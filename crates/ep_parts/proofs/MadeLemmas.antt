@@ -1,14 +1,14 @@
 -- Pairs and links as they are made: their ranges, their numbers, and what stands among them.
-use Rattle.std.proofs.Common.{◌≡◌, ℕ, zero, suc, ◌+◌, ◌*◌, ◌<◌, ◌≤◌, Bool, true, false, cond, ◌||◌, Option, Some, None, unwrap_or, List, [], ◌∷◌, ◌++◌, length, map, get_or, position, refl, ap, sym, ◌∙◌, subst, arith, inl, inr, ⊎_elim, All, nat_lt, lt-suc_self}
-use Rattle.std.specs.List.{list_any, position_or_len}
+use Rattle.std.proofs.Common.{◌≡◌, ℕ, zero, suc, ◌*◌, ◌<◌, ◌≤◌, Bool, true, false, cond, Option, Some, None, unwrap_or, List, [], ◌∷◌, length, map, get_or, position, refl, ap, sym, ◌∙◌, subst, arith, ⊎_elim, All, nat_lt, lt-suc_self}
+use Rattle.std.specs.List.{position_or_len}
 use Rattle.std.proofs.lemmas.Bool.Decides.{nat_tests}
 use Rattle.std.proofs.lemmas.List.{length-map, length-append}
-use Rattle.std.proofs.lemmas.List.Elements.{All-head, All-tail, All-get_or}
+use Rattle.std.proofs.lemmas.List.Elements.{All-head, All-tail}
 use Rattle.std.proofs.lemmas.List.Sums.{position_or_len_is}
 use Rattle.std.proofs.lemmas.List.Quantifiers.{position-Some}
 use Rattle.ep_theory.specs.Rising.{IsIn}
 use Rattle.ep_theory.specs.FourActions.{is_member}
-use Rattle.ep_theory.specs.Numbers.{numbers_where, pairs_within, pairs_where, table}
+use Rattle.ep_theory.specs.Numbers.{numbers_where, pairs_within, table}
 use Rattle.ep_theory.proofs.Lists.{from_map, IsIn-map}
 use Rattle.ep_theory.proofs.Filters.{IsIn-at}
 use Rattle.ep_theory.proofs.Counting.{last_or_before}

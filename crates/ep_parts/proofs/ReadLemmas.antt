@@ -1,16 +1,14 @@
 -- How many items a tree has that reads so many tokens.
-use Rattle.std.proofs.Common.{◌≡◌, ℕ, ◌+◌, ◌≤◌, List, [], ◌∷◌, ◌++◌, length, map, All, ap, ◌∙◌, sym, subst, arith}
+use Rattle.std.proofs.Common.{◌≡◌, ℕ, ◌+◌, ◌≤◌, List, [], ◌∷◌, ◌++◌, length, map, All, ap, subst, arith}
 use Rattle.std.specs.List.{flat_map}
 use Rattle.std.proofs.lemmas.List.{length-append, length-map}
 use Rattle.std.proofs.lemmas.List.Elements.{All-nil, All-cons, All-append}
-use Rattle.ep_tree.specs.Grammar.{tasks, spelling_of}
 use Rattle.ep_tree.specs.Marks.{Mark, fixed, named}
 use Rattle.ep_tree.specs.declared.terminal.Terminal.TheVariants as the
 use Rattle.ep_tree.specs.Spelling as spell
 use Rattle.ep_tree.specs.declared.tree.FormulaTree.{FormulaTree}
 use Rattle.ep_tree.specs.declared.tree.InitTree.{InitTree}
 use Rattle.ep_tree.specs.declared.tree.InitTree.TheVariants.{Explicit, Lawful}
-use Rattle.ep_tree.specs.declared.tree.WorldTree.{WorldTree}
 use Rattle.ep_tree.specs.declared.tree.SetTree.{SetTree}
 use Rattle.ep_tree.specs.declared.tree.EventTree.{EventTree}
 use Rattle.ep_tree.specs.declared.tree.BodyTree.{BodyTree}

@@ -1,6 +1,6 @@
 -- Assignments to one atom twice, as the builder of actions finds them.
-use Rattle.std.proofs.Common.{◌≡◌, ◌≢◌, ℕ, zero, suc, ◌+◌, ◌<◌, ◌≤◌, Bool, true, false, cond, not, ◌&&◌, ◌||◌, ◌==◌, Option, Some, None, is_some, option_map, List, [], ◌∷◌, ◌++◌, length, map, take, get_or, slice_get, refl, ap, sym, ◌∙◌, subst, arith, IsTrue, ⊎_elim}
-use Rattle.std.specs.List.{list_any, AllByRecursion}
+use Rattle.std.proofs.Common.{◌≡◌, ◌≢◌, ℕ, zero, suc, ◌<◌, Bool, true, false, not, ◌==◌, None, is_some, option_map, List, [], ◌∷◌, length, map, take, get_or, slice_get, refl, ap, sym, ◌∙◌, subst, arith, IsTrue, ⊎_elim}
+use Rattle.std.specs.List.{AllByRecursion}
 use Rattle.std.proofs.lemmas.Bool.{ne_eqb, true≢false}
 use Rattle.std.proofs.lemmas.List.{length-map, length-take, get_or-map, get_or-take}
 use Rattle.ep_logic.specs.declared.formula.Node.{Node}
@@ -10,7 +10,6 @@ use Rattle.ep_event.specs.declared.parts.Assign.{Assign}
 use Rattle.ep_event.specs.Built.{set_of}
 use Rattle.ep_event.specs.Refusals.{atom_at, is_repeated, repeated_atom}
 use Rattle.ep_event.proofs.RepeatLemmas.{are_distinct}
-use Rattle.ep_theory.specs.Rising.{IsIn}
 use Rattle.ep_theory.specs.Numbers.{numbers_where}
 use Rattle.ep_theory.specs.Events.{AreDistinct}
 use Rattle.ep_theory.proofs.Lists.{equal_from_test}

@@ -1,12 +1,11 @@
 -- What the names of a task that was read and has no fault are: words, and those of a list differ.
-use Rattle.std.proofs.Common.{◌≡◌, ◌≢◌, ℕ, zero, suc, ◌+◌, ◌<◌, ◌≤◌, Bool, true, false, ◌&&◌, not, IsTrue, Option, None, unwrap_or, List, [], ◌∷◌, ◌++◌, length, map, nat_le, All, refl, ap, sym, ◌∙◌, subst, arith, append_assoc, append-nil}
-use Rattle.std.specs.Prelude.{codes}
+use Rattle.std.proofs.Common.{◌≡◌, ◌≢◌, ℕ, ◌+◌, ◌≤◌, Bool, true, false, ◌&&◌, not, IsTrue, None, unwrap_or, List, [], ◌∷◌, ◌++◌, length, map, nat_le, All, refl, ap, sym, ◌∙◌, subst, arith, append_assoc, append-nil}
 use Rattle.std.specs.List.{flat_map, list_all}
 use Rattle.std.proofs.lemmas.Bool.{true≢false}
-use Rattle.std.proofs.lemmas.List.{length-map, length-append}
+use Rattle.std.proofs.lemmas.List.{length-map}
 use Rattle.std.proofs.lemmas.List.Elements.{All-nil, All-cons, All-append}
 use Rattle.ep_binding.specs.Bindings.{IsApart}
-use Rattle.ep_lex.specs.Pieces.{is_letter, is_word_byte, is_piece}
+use Rattle.ep_lex.specs.Pieces.{is_letter, is_word_byte}
 use Rattle.ep_lex.specs.declared.token.TokenKind.TheVariants as kind
 use Rattle.ep_lex.specs.Pieces as piece
 use Rattle.ep_name.specs.Names.{IsPlainByte, IsPlain}
@@ -19,13 +18,13 @@ use Rattle.ep_tree.specs.declared.tree.InitTree.TheVariants.{Explicit}
 use Rattle.ep_tree.specs.declared.tree.SchemaTree.{SchemaTree}
 use Rattle.ep_tree.specs.declared.tree.TaskTree.{TaskTree}
 use Rattle.ep_tree.specs.Formed.{Each, OneOrMore, IsFormedName, IsFormedObject, IsFormedSchema, IsFormedInit}
-use Rattle.ep_tree.specs.Marks.{Mark, IsShallow, fixed, named, texts as mark_texts}
+use Rattle.ep_tree.specs.Marks.{Mark, IsShallow, fixed}
 use Rattle.ep_tree.specs.Spelling as spell
 use Rattle.ep_tree.specs.Terminals.{is_name, is_reserved}
 use Rattle.ep_types.specs.Atoms.{texts}
 use Rattle.ep_types.specs.Faults.{first_fault}
-use Rattle.ep_types.specs.Names.{Text, is_among, names_of}
-use Rattle.ep_types.specs.Places.{Scope, both, at, closed, objective, NewName, UsedName}
+use Rattle.ep_types.specs.Names.{Text, names_of}
+use Rattle.ep_types.specs.Places.{both, at, closed, objective, NewName, UsedName}
 use Rattle.ep_types.specs.Tasks as tasks
 use Rattle.ep_types.specs.Tasks.{HasNoFault, declarations, start}
 use Rattle.ep_types.specs.Uses as uses

@@ -1,5 +1,5 @@
 -- What can be built of the body of a schema and of an explicit initial state, whatever the binding.
-use Rattle.std.specs.Prelude.{◌<◌, ◌≤◌, List, ◌∷◌, length, IsTrue, All as Each}
+use Rattle.std.specs.Prelude.{◌<◌, ◌≤◌, List, length, IsTrue, All as Each}
 use Rattle.ep_binding.specs.Bindings.{IsApart}
 use Rattle.ep_tree.specs.declared.tree.Name.{Name}
 use Rattle.ep_tree.specs.declared.tree.PairsTree.{PairsTree}

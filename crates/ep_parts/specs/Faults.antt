@@ -1,10 +1,9 @@
 -- The first ground fault: the rows of a table in their order, each with its exact count.
 use Rattle.std.specs.Prelude.{◌≡◌, ℕ, ◌+◌, ◌*◌, Bool, ◌&&◌, nat_eq, nat_lt, List, [], ◌∷◌, length, map, sum, Option, Some, None, if◌then◌else◌}
-use Rattle.ep_logic.specs.declared.formula.Node.{Node}
 use Rattle.ep_theory.specs.Events.{EventModel}
 use Rattle.ep_tree.specs.declared.tree.WorldTree.{WorldTree}
 use Rattle.ep_tree.specs.declared.tree.BodyTree.{BodyTree}
-use Rattle.ep_tree.specs.declared.tree.BodyTree.TheVariants.{Announce, Private, Sense, Assign, Events}
+use Rattle.ep_tree.specs.declared.tree.BodyTree.TheVariants.{Events}
 use Rattle.ep_tree.specs.declared.tree.SchemaTree.{SchemaTree}
 use Rattle.ep_tree.specs.declared.tree.TaskTree.{TaskTree}
 use Rattle.ep_types.specs.Names.{Text}
@@ -15,7 +14,6 @@ use Rattle.ep_universe.specs.Objects.{agents_of}
 use Rattle.ep_universe.specs.Atoms.{atoms_of}
 use Rattle.ep_universe.specs.Counts.{ground_count}
 use Rattle.ep_parts.specs.Actions.{actions_of, assigns_twice}
-use Rattle.ep_parts.specs.PrintedNames.{action_names}
 use Rattle.ep_universe.specs.FirstToken.{first_token}
 use Rattle.ep_parts.specs.Written.{Written, task_formulas}
 

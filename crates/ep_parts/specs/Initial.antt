@@ -1,5 +1,5 @@
 -- The initial state of the explicit form.
-use Rattle.std.specs.Prelude.{ℕ, Bool, List, [], length, map}
+use Rattle.std.specs.Prelude.{Bool, List, [], length, map}
 use Rattle.ep_theory.specs.Kripke.{Kripke}
 use Rattle.ep_theory.specs.Numbers.{has_number, table}
 use Rattle.ep_tree.specs.declared.tree.Name.{Name}

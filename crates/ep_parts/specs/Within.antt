@@ -1,5 +1,5 @@
 -- What is known of a task within the limits: everything of it can be built.
-use Rattle.std.specs.Prelude.{ℕ, ◌<◌, ◌≤◌, length, All}
+use Rattle.std.specs.Prelude.{◌<◌, ◌≤◌, length, All}
 use Rattle.ep_tree.specs.declared.tree.SchemaTree.{SchemaTree}
 use Rattle.ep_tree.specs.declared.tree.TaskTree.{TaskTree}
 use Rattle.ep_types.specs.declared.scope.Declared.{Declared}

@@ -14,7 +14,7 @@ use Rattle.ep_search.specs.declared.answer.Bounds.{Bounds}
 use Rattle.ep_search.specs.declared.answer.Mode.{Mode}
 use Rattle.ep_search.specs.declared.answer.Mode.TheVariants as mode
 use Rattle.ep_search.specs.declared.progress.Progress.{Progress}
-use Rattle.ep_search.specs.Allowed.{IsShortest, IsFound, NoneWithin}
+use Rattle.ep_search.specs.Allowed.{IsShortest, NoneWithin}
 use Rattle.ep_search.specs.Sound.{IsBest, late}
 use Rattle.ep_search.specs.Progresses.{Keeps, Waits, IsCovered, IsClosed, CoversBut, CoversAll, spent}
 use Rattle.ep_search.proofs.SoundLemmas.{same_place}

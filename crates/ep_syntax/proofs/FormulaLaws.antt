@@ -1,34 +1,29 @@
 -- The law of the reader of formulas.
-use Rattle.std.proofs.Common.{◌≡◌, ℕ, zero, suc, ◌+◌, ◌≤◌, ◌<◌, Bool, true, false, cond, ◌&&◌, ◌||◌, IsTrue, IfSome, List, [], ◌∷◌, ◌++◌, length, map, drop, Option, Some, None, Result, Ok, Err, refl, sym, ap, ◌∙◌, subst, arith, append_assoc, length-append}
-use Rattle.std.specs.Prelude.{nat_le, ◌==◌, is_some}
-use Rattle.std.proofs.Math.Dec.{eqb-suc-zero}
+use Rattle.std.proofs.Common.{◌≡◌, ℕ, zero, suc, ◌+◌, ◌≤◌, Bool, true, false, cond, List, [], ◌∷◌, ◌++◌, length, Option, Some, refl, sym, ap, ◌∙◌, subst, arith, append_assoc}
+use Rattle.std.specs.Prelude.{nat_le, ◌==◌}
 use Rattle.std.proofs.lemmas.Bool.{false≢true, le-leb}
 use Rattle.ep_tree.specs.declared.terminal.Terminal.{Terminal}
 use Rattle.ep_tree.specs.declared.terminal.Terminal.TheVariants as the
-use Rattle.ep_tree.specs.declared.tree.Name.{Name}
-use Rattle.ep_tree.specs.declared.tree.AtomTree.{AtomTree}
 use Rattle.ep_tree.specs.declared.tree.GroupTree.{GroupTree}
 use Rattle.ep_tree.specs.declared.tree.GroupTree.TheVariants as group_tree
 use Rattle.ep_tree.specs.declared.tree.ParamTree.{ParamTree}
-use Rattle.ep_tree.specs.declared.tree.FormulaTree.{FormulaTree, out-FormulaTree, roll-FormulaTree, roll-out-FormulaTree}
+use Rattle.ep_tree.specs.declared.tree.FormulaTree.{FormulaTree, roll-FormulaTree}
 use Rattle.ep_tree.specs.declared.tree.FormulaTree.TheOpen as layer
 use Rattle.ep_tree.specs.declared.tree.FormulaTree.TheVariants as tree
-use Rattle.ep_tree.specs.Formed.{Each, OneOrMore, formed_formula, formed_param, formed_params, formed_parts, IsFormedFormula, IsFormedName, IsFormedParam}
-use Rattle.ep_syntax.specs.FormulaReading.{is_equality, follows, deep_name, opened, not_of, knows_of, common_of, forall_of, exists_of, starter_of, starter, by_terminal, by_token, starts_formula, too_deep, formula, equality, inside, atom, group, params}
-use Rattle.ep_tree.specs.Marks.{Mark, fixed, opening, named, texts, nesting_at}
-use Rattle.ep_syntax.specs.Reading.{Token, Fault, Syntax, TooDeep, Read, Reader, seq, made, begins, heads, key, name, name_begins, whole}
+use Rattle.ep_tree.specs.Formed.{OneOrMore, formed_formula, formed_param, formed_params, IsFormedFormula, IsFormedParam}
+use Rattle.ep_syntax.specs.FormulaReading.{opened, not_of, knows_of, common_of, forall_of, exists_of, starter_of, starter, by_terminal, by_token, too_deep, formula, atom, group, params}
+use Rattle.ep_tree.specs.Marks.{Mark, fixed, opening}
+use Rattle.ep_syntax.specs.Reading.{Token, Read, Reader, made, name, whole}
 use Rattle.ep_tree.specs.Terminals.{is}
-use Rattle.ep_tree.specs.Spelling.{behind, between, formula_at}
+use Rattle.ep_tree.specs.Spelling.{formula_at}
 use Rattle.ep_tree.specs.Spelling as spell
-use Rattle.ep_tree.specs.Terminals.{text_of, is_name}
-use Rattle.ep_syntax.proofs.AtomLaws.{NotOpen, atoms_at, atom_reads, groups_one, group_part, params_of, params_part, some_param, each-list_all, list_all-each, and_true}
-use Rattle.ep_syntax.proofs.Laws.{Follow, Outcome, both, both_then, Makes, Made}
-use Rattle.ep_syntax.proofs.Layers.{Layer, formulas_at, first_text, first_mark, rest_marks, rest_texts, marks-out, texts-out, formed-out, formed-roll, lead, lead-first, is_lead, name-first, starter-text, some_formula, no_reads, end_reads}
-use Rattle.ep_syntax.proofs.ListLaws.{Agree-heads}
-use Rattle.ep_syntax.proofs.MarkLists.{Agree, IsShallowTo, Opens, Opens-more}
+use Rattle.ep_tree.specs.Terminals.{is_name}
+use Rattle.ep_syntax.proofs.AtomLaws.{NotOpen, atoms_at, atom_reads, groups_one, group_part, params_of, params_part, each-list_all, list_all-each, and_true}
+use Rattle.ep_syntax.proofs.Laws.{Outcome, both, Made}
+use Rattle.ep_syntax.proofs.Layers.{Layer, formulas_at, first_text, formed-roll, lead, lead-first, is_lead, name-first, some_formula, no_reads, end_reads}
 use Rattle.ep_syntax.proofs.DeepLaws.{opened_law, too_deep_reads}
 use Rattle.ep_syntax.proofs.ParenLaws.{made_from_first}
-use Rattle.ep_syntax.proofs.Readers.{Reads, Part, Any, pair, then, made_by, either, fewer, less, is-true, is-text_of, opened_reads, name_part, some_name, names_one}
+use Rattle.ep_syntax.proofs.Readers.{Reads, Part, then, less, opened_reads, name_part, names_one}
 use Rattle.ep_syntax.proofs.Readers as reader
 use Rattle.ep_syntax.proofs.Sources.{both_true}
 use Rattle.ep_syntax.proofs.TreeEquations as eq

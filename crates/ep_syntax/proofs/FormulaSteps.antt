@@ -1,15 +1,12 @@
 -- The equations of the reader of formulas.
-use Rattle.std.proofs.Common.{◌≡◌, ◌≢◌, ℕ, zero, suc, ◌+◌, ◌-◌, ◌<◌, Bool, true, false, cond, List, [], ◌∷◌, ◌++◌, Result, Ok, Err, refl, sym, ap, ◌∙◌, arith, append_assoc}
+use Rattle.std.proofs.Common.{◌≡◌, ℕ, zero, suc, ◌-◌, ◌<◌, true, false, cond, List, Result, Ok, Err, ap, ◌∙◌, arith}
 use Rattle.std.specs.Prelude.{◌==◌}
 use Rattle.ep_syntax.specs.declared.error.SyntaxError.{SyntaxError}
 use Rattle.ep_syntax.specs.declared.error.SyntaxError.TheVariants as error
-use Rattle.ep_tree.specs.declared.terminal.Terminal.{Terminal}
-use Rattle.ep_tree.specs.declared.tree.FormulaTree.{FormulaTree}
-use Rattle.ep_syntax.specs.FormulaReading.{formula, by_token, too_deep, starts_formula, some_behind}
-use Rattle.ep_syntax.specs.Gives.{Place, Gives, Stops}
-use Rattle.ep_syntax.specs.Reading.{Token, Fault, Syntax, TooDeep, Read, Reader, seq, paired, made, each_by, each, front, behind_key}
+use Rattle.ep_syntax.specs.FormulaReading.{formula, by_token, too_deep, starts_formula}
+use Rattle.ep_syntax.specs.Gives.{Place, Gives}
+use Rattle.ep_syntax.specs.Reading.{Token, Syntax, TooDeep, Read, Reader}
 use Rattle.ep_tree.specs.Terminals.{is}
-use Rattle.ep_syntax.proofs.Loops.{Going}
 
 pub formula-suc : (depth n : ℕ) (ts : List Token) → 0 < depth → formula depth n ts ≡ by_token (depth - 1 == 0) (formula (depth - 1)) n ts
 unfolding formula

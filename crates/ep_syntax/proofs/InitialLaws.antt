@@ -1,5 +1,5 @@
 -- The laws of the readers of the initial state.
-use Rattle.std.proofs.Common.{◌≡◌, ℕ, zero, suc, ◌+◌, ◌≤◌, ◌<◌, Bool, true, false, cond, IsTrue, IfSome, List, [], ◌∷◌, ◌++◌, length, map, Option, Some, None, Result, Ok, Err, refl, sym, ap, ◌∙◌, subst, arith, append_assoc}
+use Rattle.std.proofs.Common.{◌≡◌, ℕ, ◌+◌, true, false, IfSome, List, [], ◌∷◌, ◌++◌, map, Option, Some, None, refl, sym, ap, ◌∙◌, append_assoc}
 use Rattle.std.specs.List.{flat_map}
 use Rattle.std.proofs.lemmas.Bool.{false≢true}
 use Rattle.ep_tree.specs.declared.terminal.Terminal.{Terminal}
@@ -18,21 +18,21 @@ use Rattle.ep_tree.specs.declared.tree.InitTree.TheVariants.{Explicit, Lawful}
 use Rattle.ep_tree.specs.declared.tree.FormulaTree.{FormulaTree}
 use Rattle.ep_tree.specs.declared.tree.FormulaTree.TheVariants as tree
 use Rattle.ep_tree.specs.Bare.{bare_pair, bare_pairs, bare_link, bare_world, bare_facts, bare_sees, bare_init}
-use Rattle.ep_tree.specs.Formed.{Each, OneOrMore, IsFormedName, IsFormedAtom, IsFormedPair, IsFormedPairs, IsFormedLink, IsFormedWorld, IsFormedSees, IsFormedInit}
+use Rattle.ep_tree.specs.Formed.{Each, IsFormedAtom, IsFormedPair, IsFormedPairs, IsFormedLink, IsFormedWorld, IsFormedSees, IsFormedInit}
 use Rattle.ep_tree.specs.Grammar.{Grammar}
-use Rattle.ep_tree.specs.Marks.{Mark, fixed, named, texts}
-use Rattle.ep_syntax.specs.Reading.{Token, Read, Reader, seq, made, begins, heads, key, name, each, some_each, behind_key, listed, any_listed, within, braced}
+use Rattle.ep_tree.specs.Marks.{texts}
+use Rattle.ep_syntax.specs.Reading.{Token, Read, made, begins, heads, key, name, each, some_each, listed, any_listed, within, braced}
 use Rattle.ep_tree.specs.Terminals.{is}
 use Rattle.ep_tree.specs.Spelling as spell
 use Rattle.ep_tree.specs.Terminals.{text_of, is_name}
 use Rattle.ep_syntax.proofs.MarkLists.{Agree}
-use Rattle.ep_syntax.proofs.Laws.{Follow, IsSame, both, both_then, Makes, Made}
-use Rattle.ep_syntax.proofs.ListLaws.{Agree-heads, StartsWith, each_of, each_part, some_each_of, some_each_part, behind_of, keyed_part, listed_of, listed_part, any_listed_of, any_listed_part}
-use Rattle.ep_syntax.proofs.Readers.{Reads, Part, Any, Lacks, Next, pair, then, made_by, made_all, either, fewer, less, less_part, is-text_of, next_lacks, plain, plain_reads, plain_part, names_one, name_part, some_name}
+use Rattle.ep_syntax.proofs.Laws.{Follow, both, Made}
+use Rattle.ep_syntax.proofs.ListLaws.{Agree-heads, each_of, each_part, some_each_of, some_each_part, behind_of, keyed_part, listed_of, listed_part, any_listed_of, any_listed_part}
+use Rattle.ep_syntax.proofs.Readers.{Reads, Part, Any, Next, pair, then, made_by, made_all, either, fewer, next_lacks, plain, plain_reads, plain_part, names_one, name_part, some_name}
 use Rattle.ep_syntax.specs.FormulaReading.{atom, group}
-use Rattle.ep_syntax.specs.TaskReading.{outer_formula, statement, atoms, pair_of, pairs, link_of, link, designated, world_of, world, explicit_of, explicit, facts, sees_of, sees, lawful_of, lawful, init_items, init}
+use Rattle.ep_syntax.specs.TaskReading.{outer_formula, statement, atoms, pairs, link, designated, world, explicit_of, explicit, facts, sees, lawful_of, lawful, init_items, init}
 use Rattle.ep_syntax.specs.TaskReading as reading
-use Rattle.ep_syntax.proofs.AtomLaws.{NotOpen, within_of, within_part, names_part, atoms_one, any_atoms_part, groups_one, group_part}
+use Rattle.ep_syntax.proofs.AtomLaws.{NotOpen, within_of, within_part, names_part, atoms_one, any_atoms_part, group_part}
 use Rattle.ep_syntax.proofs.DeclarationLaws.{braced_of, braced_part, IsOptional, optional_part}
 use Rattle.ep_syntax.proofs.FormulaLaws.{formula_part}
 use Rattle.ep_syntax.proofs.Layers.{formulas_at, some_formula}

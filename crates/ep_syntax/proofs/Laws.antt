@@ -1,8 +1,8 @@
 -- What a reader of one kind of value keeps to, whatever follows, and how readers put together keep to it.
-use Rattle.std.proofs.Common.{◌≡◌, ℕ, zero, suc, ◌+◌, ◌-◌, ◌≤◌, ◌<◌, Bool, true, false, cond, List, [], ◌∷◌, ◌++◌, length, Result, Ok, Err, refl, sym, ap, ◌∙◌, subst, arith, append_assoc, length-append, add-one, ⊎_elim}
+use Rattle.std.proofs.Common.{◌≡◌, ℕ, suc, ◌+◌, ◌-◌, ◌≤◌, ◌<◌, cond, List, ◌++◌, length, Ok, Err, refl, sym, ap, ◌∙◌, subst, arith, append_assoc, length-append, ⊎_elim}
 use Rattle.std.proofs.lemmas.Bool.{cases_lt}
 use Rattle.ep_tree.specs.Grammar.{Grammar}
-use Rattle.ep_tree.specs.Marks.{Mark, texts, PlacedFrom, IsShallow, nesting_at}
+use Rattle.ep_tree.specs.Marks.{Mark, texts, PlacedFrom, IsShallow}
 use Rattle.ep_syntax.specs.Reading.{Token, Fault, Syntax, TooDeep, Read, Reader, paired, seq, made}
 use Rattle.ep_syntax.proofs.MarkLists.{Agree, Agree-less, Agree-behind, outline, outline-append, texts-same, length-same, PlacedFrom-append, IsShallow-same, IsShallow-append, IsShallowTo, IsShallowTo-behind, IsShallowTo-more, Opens, Opens-behind, Opens-more, Opens-within}
 use Rattle.ep_tree.proofs.MarkTexts.{texts-append, length-texts}

@@ -1,35 +1,30 @@
 -- A formula's layer: its first token, and what stands behind it.
-use Rattle.std.proofs.Common.{◌≡◌, ℕ, zero, suc, ◌+◌, ◌≤◌, ◌<◌, Bool, true, false, cond, ◌&&◌, ◌||◌, IsTrue, List, [], ◌∷◌, ◌++◌, length, map, Option, Some, None, Result, Ok, Err, refl, sym, ap, ◌∙◌, subst, arith, append_assoc, length-append}
-use Rattle.std.specs.List.{flat_map, list_all}
-use Rattle.std.specs.Prelude.{nat_le, find, ◌==◌}
-use Rattle.std.proofs.lemmas.Bool.{false≢true, le-leb}
+use Rattle.std.proofs.Common.{◌≡◌, ℕ, suc, ◌+◌, ◌≤◌, Bool, true, false, cond, List, [], ◌∷◌, ◌++◌, length, map, Option, Some, None, Err, refl, sym, ap, ◌∙◌, subst, arith}
+use Rattle.std.specs.Prelude.{find}
+use Rattle.std.proofs.lemmas.Bool.{false≢true}
 use Rattle.ep_tree.specs.declared.terminal.Terminal.{Terminal}
 use Rattle.ep_tree.specs.declared.terminal.Terminal.TheVariants as the
-use Rattle.ep_tree.specs.declared.tree.Name.{Name}
 use Rattle.ep_tree.specs.declared.tree.AtomTree.{AtomTree}
 use Rattle.ep_tree.specs.declared.tree.GroupTree.{GroupTree}
 use Rattle.ep_tree.specs.declared.tree.GroupTree.TheVariants as group_tree
-use Rattle.ep_tree.specs.declared.tree.ParamTree.{ParamTree}
 use Rattle.ep_tree.specs.declared.tree.FormulaTree.{FormulaTree, out-FormulaTree, roll-FormulaTree, roll-out-FormulaTree}
 use Rattle.ep_tree.specs.declared.tree.FormulaTree.TheOpen.{FormulaTree-F}
 use Rattle.ep_tree.specs.declared.tree.FormulaTree.TheOpen as layer
 use Rattle.ep_tree.specs.declared.tree.FormulaTree.TheVariants as tree
 use Rattle.ep_tree.specs.declared.tree.FormulaTree.TheFolds.{fold-roll-FormulaTree, map-FormulaTree}
 use Rattle.ep_tree.specs.Bare.{bare_formula}
-use Rattle.ep_tree.specs.Formed.{Each, OneOrMore, formed_layer, formed_formula, formed_params, formed_parts, formed_param, is_true, IsFormedFormula, IsFormedName, IsFormedParam}
-use Rattle.ep_syntax.specs.FormulaReading.{Tail, closed, anded, ored, some_behind, joined, tail, with_tail, inside_of, inside, equal_of, equality, is_equality, follows, deep_name, opened, not_of, knows_of, common_of, forall_of, exists_of, starters, starter_of, starter, by_terminal, by_token, starts_formula, too_deep, formula, atom, group, params}
+use Rattle.ep_tree.specs.Formed.{formed_layer, formed_formula, IsFormedFormula}
+use Rattle.ep_syntax.specs.FormulaReading.{starters, starter_of, starter, formula, group, params}
 use Rattle.ep_tree.specs.Grammar.{Grammar}
-use Rattle.ep_tree.specs.Marks.{Mark, fixed, held, opening, named, texts, nesting_at}
-use Rattle.ep_syntax.specs.Reading.{Token, Fault, Syntax, TooDeep, Read, Reader, seq, made, begins, heads, key, name, name_begins, each, front, behind_key}
+use Rattle.ep_tree.specs.Marks.{Mark, fixed, named, texts}
+use Rattle.ep_syntax.specs.Reading.{Token, Syntax, Read, Reader, begins, name, front}
 use Rattle.ep_tree.specs.Terminals.{is}
-use Rattle.ep_tree.specs.Spelling.{behind, between, formula_at}
+use Rattle.ep_tree.specs.Spelling.{between, formula_at}
 use Rattle.ep_tree.specs.Spelling as spell
 use Rattle.ep_tree.specs.Terminals.{text_of, is_name}
-use Rattle.ep_syntax.proofs.AtomLaws.{NotOpen, atoms_at, atom_reads, groups_one, group_part, params_of, params_part, some_param, some_atom, each-list_all, list_all-each, and_true}
-use Rattle.ep_syntax.proofs.Laws.{Follow, IsRead, IsRefused, IsTooDeep, IsSame, Outcome, both, both_then, Makes, Made}
-use Rattle.ep_syntax.proofs.ListLaws.{Agree-heads, behind_of, behind-flat_map, each_of, behind_part, rest_part, follow_rest}
-use Rattle.ep_syntax.proofs.MarkLists.{Agree, IsShallowTo}
-use Rattle.ep_syntax.proofs.Readers.{Reads, Part, Any, Lacks, Next, pair, then, made_by, made_all, made_far, Witness, either, fewer, less, less_part, is-true, is-text_of, differs, next_lacks, plain, plain_reads, plain_part, opened_reads, titles, names_one, name_part, some_name}
+use Rattle.ep_syntax.proofs.Laws.{Follow, both}
+use Rattle.ep_syntax.proofs.MarkLists.{Agree}
+use Rattle.ep_syntax.proofs.Readers.{Reads, is-true}
 use Rattle.ep_syntax.proofs.Readers as reader
 use Rattle.ep_syntax.proofs.Sources.{both_true}
 use Rattle.ep_syntax.proofs.TreeEquations as eq

@@ -1,7 +1,6 @@
 -- The tokens of a layout are those that are laid out.
-use Rattle.std.proofs.Common.{◌≡◌, ℕ, Bool, true, false, cond, ◌&&◌, ◌||◌, ◌==◌, List, [], ◌∷◌, ◌++◌, length, refl, sym, ap, ◌∙◌, subst}
+use Rattle.std.proofs.Common.{◌≡◌, ℕ, Bool, true, false, cond, ◌||◌, ◌==◌, List, [], ◌∷◌, ◌++◌, refl, ap, ◌∙◌, subst}
 use Rattle.std.specs.Prelude.{IsTrue, if◌then◌else◌}
-use Rattle.std.proofs.lemmas.Bool.{false≢true}
 use Rattle.ep_lex.specs.declared.token.Token.{Token as Lexeme}
 use Rattle.ep_lex.specs.declared.token.TokenKind.{TokenKind}
 use Rattle.ep_lex.specs.declared.token.TokenKind.TheVariants.{Word, Number, Mark}

@@ -1,5 +1,5 @@
 -- Lists of marks and of tokens.
-use Rattle.std.proofs.Common.{◌≡◌, ℕ, zero, suc, ◌+◌, ◌-◌, ◌≤◌, ◌<◌, List, [], ◌∷◌, ◌++◌, length, map, Option, Some, None, IfSome, refl, sym, ap, ◌∙◌, subst, arith}
+use Rattle.std.proofs.Common.{◌≡◌, ℕ, zero, suc, ◌+◌, ◌-◌, ◌≤◌, ◌<◌, List, [], ◌∷◌, ◌++◌, length, map, Some, None, IfSome, refl, sym, ap, ◌∙◌, subst, arith}
 use Rattle.ep_tree.specs.Marks.{Mark, texts, PlacedFrom, IsShallow, nesting_at}
 use Rattle.ep_syntax.specs.Reading.{Token}
 use Rattle.ep_tree.proofs.MarkTexts.{length-texts}

@@ -1,5 +1,5 @@
 -- The laws of the readers of what stands in parentheses.
-use Rattle.std.proofs.Common.{◌≡◌, ℕ, zero, suc, ◌+◌, ◌≤◌, ◌<◌, Bool, true, false, cond, ◌&&◌, ◌||◌, IsTrue, List, [], ◌∷◌, ◌++◌, length, map, drop, Option, Some, None, Result, Ok, Err, refl, sym, ap, ◌∙◌, subst, arith, append_assoc, length-append}
+use Rattle.std.proofs.Common.{◌≡◌, ℕ, suc, ◌+◌, ◌≤◌, Bool, true, false, ◌&&◌, List, [], ◌∷◌, ◌++◌, length, map, Some, refl, sym, ap, ◌∙◌, subst, arith, append_assoc, length-append}
 use Rattle.std.specs.List.{flat_map, list_all}
 use Rattle.std.specs.Prelude.{nat_le}
 use Rattle.std.proofs.lemmas.Bool.{false≢true, le-leb}
@@ -11,21 +11,21 @@ use Rattle.ep_tree.specs.declared.tree.FormulaTree.TheOpen as layer
 use Rattle.ep_tree.specs.declared.tree.FormulaTree.TheVariants as tree
 use Rattle.ep_tree.specs.Bare.{bare_formula}
 use Rattle.ep_tree.specs.Formed.{Each, OneOrMore, formed_formula, formed_parts, is_true, IsFormedFormula, IsFormedName}
-use Rattle.ep_syntax.specs.FormulaReading.{Tail, closed, anded, ored, some_behind, joined, tail, with_tail, inside_of, inside, equal_of, equality, is_equality, follows, deep_name, opened, starter_of}
+use Rattle.ep_syntax.specs.FormulaReading.{Tail, closed, anded, ored, some_behind, joined, tail, with_tail, inside_of, inside, equal_of, equality, follows, opened, starter_of}
 use Rattle.ep_tree.specs.Grammar.{Grammar}
-use Rattle.ep_tree.specs.Marks.{Mark, fixed, opening, named, texts, nesting_at}
-use Rattle.ep_syntax.specs.Reading.{Token, Fault, Syntax, TooDeep, Read, Reader, seq, made, begins, heads, key, name, name_begins, each, front, behind_key}
+use Rattle.ep_tree.specs.Marks.{Mark, fixed, opening, texts}
+use Rattle.ep_syntax.specs.Reading.{Token, Read, Reader, made, begins, heads, name, name_begins, each, front}
 use Rattle.ep_tree.specs.Terminals.{is}
 use Rattle.ep_tree.specs.Spelling.{behind, between, formula_at}
 use Rattle.ep_tree.specs.Spelling as spell
 use Rattle.ep_tree.specs.Terminals.{text_of, is_name}
 use Rattle.ep_tree.specs.declared.tree.AtomTree.{AtomTree}
 use Rattle.ep_syntax.proofs.AtomLaws.{NotOpen, and_true}
-use Rattle.ep_syntax.proofs.Laws.{Follow, IsRead, IsRefused, IsTooDeep, IsSame, Outcome, both, both_then, Makes, Made}
-use Rattle.ep_syntax.proofs.Layers.{Layer, formulas_at, first_text, rest_marks, rest_texts, marks-out, texts-out, formed-out, formed-roll, formula_long, lead, lead-first, name-first, starter-text, some_formula}
+use Rattle.ep_syntax.proofs.Laws.{Follow, both, both_then, Makes, Made}
+use Rattle.ep_syntax.proofs.Layers.{Layer, formulas_at, first_text, rest_marks, rest_texts, texts-out, formed-out, formed-roll, formula_long, lead, lead-first, name-first, starter-text, some_formula}
 use Rattle.ep_syntax.proofs.ListLaws.{Agree-heads, behind_of, behind-flat_map, each_of, behind_part, rest_part, follow_rest}
-use Rattle.ep_syntax.proofs.MarkLists.{Agree, IsShallowTo}
-use Rattle.ep_syntax.proofs.Readers.{opened_reads, Reads, Part, Any, Lacks, Next, pair, then, made_by, made_all, made_far, Witness, either, fewer, less, less_part, is-true, is-text_of, next_lacks, plain, plain_reads, plain_part, names_one, name_part, some_name}
+use Rattle.ep_syntax.proofs.MarkLists.{Agree}
+use Rattle.ep_syntax.proofs.Readers.{opened_reads, Reads, Part, Any, Next, pair, then, made_by, made_all, made_far, Witness, either, next_lacks, plain, plain_reads, plain_part, names_one, name_part, some_name}
 use Rattle.ep_syntax.proofs.Readers as reader
 use Rattle.ep_syntax.proofs.Sources.{both_true}
 use Rattle.ep_syntax.proofs.TreeEquations as eq

@@ -13,7 +13,7 @@ use Rattle.ep_tree.specs.Terminals.{text_of}
 use Rattle.ep_syntax.specs.Printing.{Printed, write, written}
 use Rattle.ep_tree.specs.Spelling.{between, behind, group, params, formula_at}
 use Rattle.ep_syntax.proofs.TreeEquations.{formula_at-Common, formula_at-Forall, formula_at-Exists, formula_at-Paren, formula_at-And, formula_at-Or}
-use Rattle.ep_syntax.proofs.PrintedLemmas.{written-append, written-headed, behind-next}
+use Rattle.ep_syntax.proofs.PrintedLemmas.{written-append, written-headed}
 
 -- the printer has written the formula, at whatever nesting
 abbrev pub Prints : Printed → Printed → FormulaTree → Type 0

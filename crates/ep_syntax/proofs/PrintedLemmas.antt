@@ -1,8 +1,8 @@
 -- What is written of one list of tokens behind another.
-use Rattle.std.proofs.Common.{◌≡◌, ℕ, suc, ◌+◌, ◌<◌, List, [], ◌∷◌, ◌++◌, length, map, drop, get_or, refl, sym, ap, ◌∙◌, subst, arith, drop-cons, add-one, Result, Ok, Err, OnOk}
+use Rattle.std.proofs.Common.{◌≡◌, ℕ, suc, ◌+◌, ◌<◌, List, [], ◌∷◌, ◌++◌, length, map, drop, get_or, refl, sym, ap, ◌∙◌, drop-cons, add-one, Result, Ok, Err, OnOk}
 use Rattle.std.specs.List.{flat_map}
 use Rattle.ep_tree.specs.declared.terminal.Terminal.{Terminal}
-use Rattle.ep_tree.specs.Marks.{Mark, fixed}
+use Rattle.ep_tree.specs.Marks.{Mark}
 use Rattle.ep_tree.specs.Terminals.{text_of}
 use Rattle.ep_syntax.specs.Printing.{Printed, write, written}
 use Rattle.ep_tree.specs.Spelling.{behind}

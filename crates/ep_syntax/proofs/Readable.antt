@@ -1,9 +1,9 @@
 -- A well-formed tree of no deep nesting is read from its tokens.
-use Rattle.std.proofs.Common.{◌≡◌, ℕ, suc, ◌+◌, List, [], ◌++◌, length, take, drop, Result, Ok, Err, refl, sym, ap, ◌∙◌, subst, arith}
+use Rattle.std.proofs.Common.{◌≡◌, ℕ, suc, ◌+◌, List, [], ◌++◌, length, take, drop, Ok, Err, refl, sym, ap, ◌∙◌, subst, arith}
 use Rattle.std.proofs.lemmas.List.{append-nil, take-append-drop}
 use Rattle.ep_syntax.specs.declared.error.SyntaxError.TheVariants as error
 use Rattle.ep_syntax.specs.Gives.{Says}
-use Rattle.ep_tree.specs.Grammar.{Grammar, spelling_of, IsOnly}
+use Rattle.ep_tree.specs.Grammar.{Grammar, spelling_of}
 use Rattle.ep_tree.specs.Grammar as grammar
 use Rattle.ep_tree.specs.Marks.{IsShallow}
 use Rattle.ep_syntax.specs.Reading.{Token, Syntax, TooDeep, Read, Reader, whole}

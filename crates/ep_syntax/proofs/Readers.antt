@@ -1,5 +1,5 @@
 -- The laws as records, so that antt finds their arguments, and the readers of one token.
-use Rattle.std.proofs.Common.{◌≡◌, ℕ, zero, suc, ◌+◌, ◌≤◌, ◌<◌, Bool, true, false, cond, IsTrue, IfSome, List, [], ◌∷◌, ◌++◌, length, Option, Some, None, Result, Ok, Err, refl, sym, ap, ◌∙◌, subst, arith, eq-eqb}
+use Rattle.std.proofs.Common.{◌≡◌, ℕ, suc, ◌+◌, ◌≤◌, Bool, true, false, cond, IfSome, List, [], ◌∷◌, ◌++◌, length, Option, Some, None, refl, sym, ap, ◌∙◌, arith, eq-eqb}
 use Rattle.std.specs.Cmp.Lexicographic.{same_text}
 use Rattle.std.specs.Str.{bytes_eq}
 use Rattle.std.proofs.lemmas.Bool.{false≢true}
@@ -9,12 +9,12 @@ use Rattle.ep_tree.specs.declared.tree.Name.{Name}
 use Rattle.ep_tree.specs.Bare.{bare_name}
 use Rattle.ep_tree.specs.Formed.{IsFormedName}
 use Rattle.ep_tree.specs.Grammar.{Grammar}
-use Rattle.ep_tree.specs.Marks.{Mark, fixed, held, opening, named, texts}
-use Rattle.ep_syntax.specs.Reading.{Token, Fault, Syntax, TooDeep, Read, Reader, seq, made, begins, heads, key, name, name_begins}
+use Rattle.ep_tree.specs.Marks.{Mark, fixed, held, opening, texts}
+use Rattle.ep_syntax.specs.Reading.{Token, Read, Reader, seq, made, begins, heads, key, name, name_begins}
 use Rattle.ep_tree.specs.Terminals.{is}
 use Rattle.ep_tree.specs.Terminals.{text_of, is_name}
 use Rattle.ep_syntax.proofs.MarkLists.{Agree, unnumbered, IsShallowTo, shallow_opens}
-use Rattle.ep_syntax.proofs.Laws.{Follow, IsRead, IsRefused, IsTooDeep, IsSame, Outcome, both, seq_outcome, Makes, Made, made_outcome, got, failed, narrow, far_refused, far_deep}
+use Rattle.ep_syntax.proofs.Laws.{Follow, IsRead, IsRefused, Outcome, both, seq_outcome, Makes, Made, made_outcome, got, failed, narrow, far_refused, far_deep}
 
 pub record Reads {A : Type 0} (g : Grammar A) (F : Follow) (n : ℕ) (ts : List Token) (r : Read A) : Type 0 where
   pub holds : Outcome g F n ts r

@@ -1,6 +1,6 @@
 -- The lexemes of a text, and the tokens that they are.
-use Rattle.std.proofs.Common.{◌≡◌, ℕ, zero, suc, ◌+◌, ◌-◌, ◌≤◌, ◌<◌, Bool, true, false, ◌&&◌, ◌||◌, nat_eq, IsTrue, List, [], ◌∷◌, length, take, drop, map, Option, Some, None, Ok, Err, All, refl, sym, ap, ◌∙◌, subst, arith, leb, T, ltb, length-drop}
-use Rattle.std.specs.Prelude.{nat_le, slice_get, not, ◌==◌}
+use Rattle.std.proofs.Common.{◌≡◌, ℕ, zero, suc, ◌+◌, ◌-◌, ◌≤◌, ◌<◌, Bool, true, false, ◌&&◌, List, [], ◌∷◌, length, drop, map, Some, Ok, Err, All, refl, sym, ap, ◌∙◌, arith, leb, T, length-drop}
+use Rattle.std.specs.Prelude.{slice_get, not}
 use Rattle.std.specs.List.{list_all}
 use Rattle.std.specs.Option.{option_map}
 use Rattle.std.proofs.lemmas.Bool.{false≢true, leb-true, le-leb}
@@ -17,7 +17,7 @@ use Rattle.ep_tree.specs.Terminals.{is_name}
 use Rattle.ep_syntax.specs.Gives.{is_sound, all_sound}
 use Rattle.ep_tree.specs.declared.terminal.Terminal.{Terminal}
 use Rattle.ep_syntax.specs.Gives.{Place}
-use Rattle.ep_syntax.specs.Reading.{Token, Fault, Syntax, Read, first_token, heads, begins, key, name, name_begins}
+use Rattle.ep_syntax.specs.Reading.{Token, Syntax, Read, first_token, heads, begins, key, name}
 
 pub both_true : (a b : Bool) → (a && b) ≡ true → (a ≡ true) × (b ≡ true)
 both_true true b e = (refl, e)

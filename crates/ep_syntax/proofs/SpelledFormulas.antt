@@ -1,11 +1,11 @@
 -- Each token of a well-formed formula is the spelling of one.
-use Rattle.std.proofs.Common.{◌≡◌, ℕ, suc, Bool, true, false, cond, ◌&&◌, List, [], ◌∷◌, ◌++◌, map, Option, Some, refl, sym, ap, ◌∙◌, subst, IsTrue}
+use Rattle.std.proofs.Common.{◌≡◌, ℕ, suc, Bool, true, false, ◌&&◌, List, [], ◌∷◌, ◌++◌, map, Option, Some, refl, sym, ap, ◌∙◌, subst}
 use Rattle.std.specs.List.{list_all, flat_map}
-use Rattle.std.specs.Prelude.{nat_le, length, not}
+use Rattle.std.specs.Prelude.{nat_le, length}
 use Rattle.std.proofs.lemmas.Bool.{false≢true}
 use Rattle.ep_lex.specs.declared.token.TokenKind.TheVariants as kind
 use Rattle.ep_lex.specs.declared.token.PieceKind.TheVariants as piece
-use Rattle.ep_lex.specs.Pieces.{is_letter, is_digit, is_word_byte, is_piece}
+use Rattle.ep_lex.specs.Pieces.{is_letter, is_word_byte, is_piece}
 use Rattle.ep_tree.specs.declared.terminal.Terminal.{Terminal}
 use Rattle.ep_tree.specs.declared.terminal.Terminal.TheVariants as the
 use Rattle.ep_tree.specs.declared.tree.Name.{Name}
@@ -20,9 +20,9 @@ use Rattle.ep_tree.specs.declared.tree.FormulaTree.TheFolds.{map-FormulaTree, in
 use Rattle.ep_tree.specs.Formed.{Each, OneOrMore, formed_name, formed_atom, formed_group, formed_param, formed_params, formed_layer, formed_formula, is_true}
 use Rattle.ep_tree.specs.Marks.{Mark, fixed, named, texts}
 use Rattle.ep_tree.specs.Spelling.{behind, between, braced, names, arguments, atom, group, param, params, parts_at, production, formula_at}
-use Rattle.ep_tree.specs.Terminals.{text_of, is_name, is_reserved}
+use Rattle.ep_tree.specs.Terminals.{text_of}
 use Rattle.ep_syntax.proofs.AtomLaws.{each-list_all}
-use Rattle.ep_syntax.proofs.LayoutTokens.{kind_of, IsSpelling, AreSpellings}
+use Rattle.ep_syntax.proofs.LayoutTokens.{IsSpelling, AreSpellings}
 use Rattle.ep_syntax.proofs.Sources.{both_true}
 
 -- each mark's bytes spell a token

@@ -1,5 +1,5 @@
 -- Each token of a well-formed task is the spelling of one.
-use Rattle.std.proofs.Common.{◌≡◌, Bool, true, false, List, [], ◌∷◌, ◌++◌, map, Option, Some, None, refl, IfSome}
+use Rattle.std.proofs.Common.{Bool, true, false, List, [], ◌∷◌, ◌++◌, map, Option, Some, None, refl, IfSome}
 use Rattle.std.specs.List.{flat_map}
 use Rattle.ep_tree.specs.declared.terminal.Terminal.{Terminal}
 use Rattle.ep_tree.specs.declared.terminal.Terminal.TheVariants as the
@@ -25,7 +25,7 @@ use Rattle.ep_tree.specs.declared.tree.BodyTree.{BodyTree}
 use Rattle.ep_tree.specs.declared.tree.BodyTree.TheVariants.{Announce, Private, Sense, Assign, Events}
 use Rattle.ep_tree.specs.declared.tree.SchemaTree.{SchemaTree}
 use Rattle.ep_tree.specs.declared.tree.FormulaTree.{FormulaTree}
-use Rattle.ep_tree.specs.Formed.{Each, OneOrMore, IsFormedName, IsFormedAtom, IsFormedGroup, IsFormedParam, IsFormedFormula, IsFormedType, IsFormedObject, IsFormedFluent, IsFormedPair, IsFormedPairs, IsFormedLink, IsFormedWorld, IsFormedSees, IsFormedInit, IsFormedSet, IsFormedEvent, IsFormedBody, IsFormedSignature, IsFormedSchema, IsFormedTask}
+use Rattle.ep_tree.specs.Formed.{Each, OneOrMore, IsFormedName, IsFormedAtom, IsFormedGroup, IsFormedFormula, IsFormedType, IsFormedObject, IsFormedFluent, IsFormedPair, IsFormedPairs, IsFormedLink, IsFormedWorld, IsFormedSees, IsFormedInit, IsFormedSet, IsFormedEvent, IsFormedBody, IsFormedSignature, IsFormedSchema, IsFormedTask}
 use Rattle.ep_tree.specs.Marks.{Mark, fixed, named, texts}
 use Rattle.ep_tree.specs.Spelling as spell
 use Rattle.ep_syntax.proofs.LayoutTokens.{AreSpellings}

@@ -1,27 +1,23 @@
 -- The law of the reader of tasks.
-use Rattle.std.proofs.Common.{◌≡◌, ℕ, zero, suc, ◌+◌, ◌≤◌, ◌<◌, Bool, true, false, cond, IsTrue, IfSome, List, [], ◌∷◌, ◌++◌, length, map, Option, Some, None, Result, Ok, Err, refl, sym, ap, ◌∙◌, subst, arith, append_assoc}
+use Rattle.std.proofs.Common.{◌≡◌, ℕ, ◌+◌, List, [], ◌∷◌, ◌++◌, map, None, refl, ap, append_assoc}
 use Rattle.std.specs.List.{flat_map}
-use Rattle.std.proofs.lemmas.Bool.{false≢true}
 use Rattle.ep_tree.specs.declared.terminal.Terminal.{Terminal}
 use Rattle.ep_tree.specs.declared.terminal.Terminal.TheVariants as the
 use Rattle.ep_tree.specs.declared.tree.TaskTree.{TaskTree}
 use Rattle.ep_tree.specs.declared.tree.InitTree.TheVariants.{Lawful}
 use Rattle.ep_tree.specs.declared.tree.FormulaTree.TheVariants as tree
 use Rattle.ep_tree.specs.Grammar.{Grammar, tasks}
-use Rattle.ep_tree.specs.Marks.{Mark, fixed, named, texts}
-use Rattle.ep_syntax.specs.Reading.{Token, Read, Reader, seq, made, begins, heads, key, name, each, some_each, behind_key, listed, any_listed, within, braced, whole}
+use Rattle.ep_tree.specs.Marks.{Mark, fixed, named}
+use Rattle.ep_syntax.specs.Reading.{Token, Read, made, name, each, braced, whole}
 use Rattle.ep_tree.specs.Terminals.{is}
 use Rattle.ep_tree.specs.Spelling as spell
-use Rattle.ep_tree.specs.Terminals.{text_of, is_name}
-use Rattle.ep_syntax.proofs.MarkLists.{Agree}
-use Rattle.ep_syntax.proofs.Laws.{Follow, IsSame, both, both_then, Makes, Made}
-use Rattle.ep_syntax.proofs.ListLaws.{Agree-heads, StartsWith, each_of, each_part, some_each_of, some_each_part, behind_of, keyed_part, listed_of, listed_part, any_listed_of, any_listed_part}
-use Rattle.ep_syntax.proofs.Readers.{Reads, Part, Any, Lacks, Next, pair, then, made_by, made_all, either, fewer, less, less_part, is-text_of, next_lacks, plain, plain_reads, plain_part, names_one, name_part, some_name}
-use Rattle.ep_syntax.specs.TaskReading.{Declarations, declarations, task_of, task, types, objects, fluents, init, schema, statement}
-use Rattle.ep_syntax.proofs.AtomLaws.{within_of}
-use Rattle.ep_syntax.proofs.ActionLaws.{schemas_of, schemas_part}
-use Rattle.ep_syntax.proofs.DeclarationLaws.{braced_of, types_of, types_part, objects_one, objects_part, fluents_one, fluents_part}
-use Rattle.ep_syntax.proofs.InitialLaws.{outer_one, statement_part, init_of, init_part}
+use Rattle.ep_syntax.proofs.Laws.{both}
+use Rattle.ep_syntax.proofs.ListLaws.{each_of, behind_of}
+use Rattle.ep_syntax.proofs.Readers.{Reads, Part, Any, pair, then, made_all, plain, plain_reads, plain_part, names_one, name_part, some_name}
+use Rattle.ep_syntax.specs.TaskReading.{Declarations, declarations, task, types, objects, fluents, init, schema, statement}
+use Rattle.ep_syntax.proofs.ActionLaws.{schemas_part}
+use Rattle.ep_syntax.proofs.DeclarationLaws.{braced_of, types_of, types_part, objects_one, objects_part, fluents_part}
+use Rattle.ep_syntax.proofs.InitialLaws.{statement_part, init_part}
 use Rattle.ep_syntax.proofs.Laws.{Outcome}
 use Rattle.ep_syntax.proofs.Layers.{some_formula}
 use Rattle.ep_syntax.proofs.Whole.{IsEmpty, whole_outcome}

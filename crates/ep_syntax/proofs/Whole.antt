@@ -1,5 +1,5 @@
 -- A value and nothing behind it: what the answer of its reader says of the tokens.
-use Rattle.std.proofs.Common.{◌≡◌, ℕ, zero, suc, ◌+◌, ◌-◌, ◌≤◌, ◌<◌, Bool, true, false, List, [], ◌∷◌, ◌++◌, length, take, drop, Some, Result, Ok, Err, IfOk, refl, sym, ap, ◌∙◌, subst, arith, append_assoc, length-append, length-take, inl, inr, ⊎_elim, ◌⊎◌}
+use Rattle.std.proofs.Common.{◌≡◌, ℕ, zero, suc, ◌+◌, ◌-◌, ◌≤◌, ◌<◌, List, [], ◌∷◌, ◌++◌, length, take, drop, Result, Ok, Err, IfOk, refl, sym, ap, ◌∙◌, subst, arith, append_assoc, length-append, inl, inr, ⊎_elim, ◌⊎◌}
 use Rattle.std.specs.Prelude.{IsOkUnless}
 use Rattle.std.proofs.lemmas.List.{append-nil, take_at, take-append-drop}
 use Rattle.std.proofs.lemmas.Bool.{cases_lt}
@@ -7,13 +7,12 @@ use Rattle.ep_syntax.specs.declared.error.SyntaxError.{SyntaxError}
 use Rattle.ep_syntax.specs.declared.error.SyntaxError.TheVariants as error
 use Rattle.ep_syntax.specs.Answers.{RefusesWith}
 use Rattle.ep_syntax.specs.Gives.{Stops, Says}
-use Rattle.ep_tree.specs.Grammar.{Grammar, spelling_of, IsOnly, IsViable, IsViableCount, IsDeep, SyntaxAt, DeepAt}
+use Rattle.ep_tree.specs.Grammar.{Grammar, spelling_of, IsOnly, IsViable, IsDeep, SyntaxAt, DeepAt}
 use Rattle.ep_tree.specs.Grammar as grammar
 use Rattle.ep_tree.specs.Marks.{texts}
-use Rattle.ep_syntax.specs.Reading.{Token, Fault, Syntax, TooDeep, Read, Reader, seq, paired, made, end, whole, first_of}
-use Rattle.ep_syntax.proofs.Laws.{Follow, IsRead, IsRefused, IsTooDeep, Outcome, both, Makes, Made, got, failed, deep}
-use Rattle.ep_syntax.proofs.MarkLists.{Agree, Agree-less, Agree-same, IsShallowTo, Opens, Opens-within, shallow_opens, shallow_to}
-use Rattle.ep_tree.proofs.MarkTexts.{length-texts}
+use Rattle.ep_syntax.specs.Reading.{Token, Syntax, TooDeep, Read, Reader, seq, paired, made, end, whole, first_of}
+use Rattle.ep_syntax.proofs.Laws.{Follow, Outcome, got, failed, deep}
+use Rattle.ep_syntax.proofs.MarkLists.{Agree, Agree-less, Agree-same, IsShallowTo, Opens, shallow_opens, shallow_to}
 use Rattle.ep_syntax.proofs.Readers.{Reads, Part, pair, made_all}
 
 abbrev pub IsEmpty : Follow

@@ -7,7 +7,7 @@ use Rattle.ep_lex.specs.Pieces.{is_piece}
 use Rattle.ep_lex.specs.Tokens.{spelling, spellings}
 use Rattle.ep_syntax.specs.declared.error.SyntaxError.{SyntaxError}
 use Rattle.ep_syntax.specs.declared.error.SyntaxError.TheVariants as error
-use Rattle.ep_syntax.specs.Reading.{Token, Fault, Syntax, TooDeep, Read, Reader}
+use Rattle.ep_syntax.specs.Reading.{Token, Syntax, TooDeep, Read, Reader}
 
 -- a place: its number, and the tokens from there
 abbrev pub Place : Type 0

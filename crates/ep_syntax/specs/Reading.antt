@@ -1,9 +1,9 @@
 -- Reading as a function on lists of tokens: the value, the place behind it and the tokens from there, or the first fault.
-use Rattle.std.specs.Prelude.{◌≡◌, ℕ, zero, suc, ◌+◌, Bool, true, false, if◌then◌else◌, List, [], ◌∷◌, length, drop, Option, Some, None, Result, Ok, Err}
+use Rattle.std.specs.Prelude.{ℕ, zero, suc, ◌+◌, Bool, false, if◌then◌else◌, List, [], ◌∷◌, length, drop, Option, Some, None, Result, Ok, Err}
 use Rattle.ep_tree.specs.declared.terminal.Terminal.{Terminal}
 use Rattle.ep_tree.specs.declared.terminal.Terminal.TheVariants as the
 use Rattle.ep_tree.specs.declared.tree.Name.{Name}
-use Rattle.ep_tree.specs.Terminals.{text_of, is, is_name}
+use Rattle.ep_tree.specs.Terminals.{is, is_name}
 
 -- a token, by its bytes
 abbrev pub Token : Type 0

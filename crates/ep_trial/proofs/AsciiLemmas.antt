@@ -1,8 +1,7 @@
 -- Texts of ASCII bytes alone, by a test and by a fact.
-use Rattle.std.proofs.Common.{ℕ, suc, ◌<◌, List, [], ◌∷◌, All, IsTrue, nat_lt, refl}
+use Rattle.std.proofs.Common.{ℕ, suc, List, [], ◌∷◌, IsTrue, nat_lt, refl}
 use Rattle.std.specs.Str.{IsAscii}
-use Rattle.std.proofs.lemmas.Bool.{ltb-true, lt-ltb, and_from}
-use Rattle.std.proofs.lemmas.List.Sums.{AllPass-from_list_all}
+use Rattle.std.proofs.lemmas.Bool.{lt-ltb, and_from}
 use Rattle.ep_trial.specs.Ascii.{all_ascii}
 
 pub passes : (bytes : List ℕ) → IsAscii bytes → IsTrue (all_ascii bytes)

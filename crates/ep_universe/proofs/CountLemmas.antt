@@ -1,5 +1,5 @@
 -- The ground form has as many nodes as are counted.
-use Rattle.std.proofs.Common.{◌≡◌, ℕ, ◌+◌, ◌*◌, ◌≤◌, Bool, true, false, cond, List, [], ◌∷◌, ◌++◌, length, map, sum, refl, ap, ◌∙◌, sym, subst, arith}
+use Rattle.std.proofs.Common.{◌≡◌, ℕ, ◌+◌, ◌*◌, Bool, true, false, cond, List, [], ◌∷◌, ◌++◌, length, map, sum, refl, ap, ◌∙◌, sym, subst, arith}
 use Rattle.std.specs.Prelude.{◌==◌}
 use Rattle.std.specs.List.{flat_map}
 use Rattle.std.proofs.lemmas.List.{length-append, length-map}
@@ -14,7 +14,7 @@ use Rattle.ep_tree.specs.declared.tree.FormulaTree.TheOpen.{FormulaTree-F}
 use Rattle.ep_tree.specs.declared.tree.FormulaTree.TheFolds.{map-FormulaTree, ind-FormulaTree}
 use Rattle.ep_types.specs.declared.scope.Declared.{Declared}
 use Rattle.ep_universe.specs.Objects.{Binding, object_at, candidates, bound}
-use Rattle.ep_universe.specs.Formulas.{ground_of, ground_layer, conjunction, disjunction, instances}
+use Rattle.ep_universe.specs.Formulas.{ground_of, ground_layer, conjunction, disjunction}
 use Rattle.ep_universe.specs.Counts.{ground_count, count_layer, repeated}
 use Rattle.ep_universe.proofs.NodeLemmas.{count-True, count-False, count-Atom, count-Not, count-And, count-Or, count-Knows, count-Common}
 use Rattle.ep_universe.proofs.TreeLemmas.{ground-roll, count-roll}

@@ -1,12 +1,11 @@
 -- Objects, one more at a time.
-use Rattle.std.proofs.Common.{◌≡◌, ℕ, zero, suc, ◌+◌, ◌<◌, ◌≤◌, Bool, true, false, cond, List, [], ◌∷◌, ◌++◌, Some, None, length, map, take, drop, get_or, slice_get, refl, ap, sym, ◌∙◌, arith, append_assoc, append-nil}
-use Rattle.std.proofs.lemmas.List.{take_more, drop_more}
+use Rattle.std.proofs.Common.{◌≡◌, ℕ, zero, suc, ◌+◌, ◌<◌, ◌≤◌, Bool, true, false, cond, List, [], ◌∷◌, ◌++◌, Some, length, take, get_or, slice_get, refl, ap, ◌∙◌, arith, append-nil}
 use Rattle.std.proofs.lemmas.Option.{get_or_from_slice_get}
 use Rattle.ep_theory.specs.Numbers.{numbers_where}
 use Rattle.ep_tree.specs.declared.tree.ParamTree.{ParamTree}
-use Rattle.ep_types.specs.Names.{Text, declared, is_text, is_below, values_of}
+use Rattle.ep_types.specs.Names.{Text, values_of}
 use Rattle.ep_types.specs.declared.scope.Declared.{Declared}
-use Rattle.ep_universe.specs.Objects.{Binding, type_at, has_type, bound, candidates}
+use Rattle.ep_universe.specs.Objects.{type_at, bound}
 
 pub type-at : (d : Declared) (o : ℕ) (t : Text) → slice_get (values_of d.objects) o ≡ Some t → type_at d o ≡ t
 type-at d o t e = get_or_from_slice_get (values_of d.objects) o t [] e

@@ -7,7 +7,7 @@ use Rattle.std.proofs.lemmas.Bool.Decides.{nat_tests}
 use Rattle.std.proofs.lemmas.List.{length-map}
 use Rattle.std.proofs.lemmas.List.Folds.{list_any-append}
 use Rattle.std.proofs.lemmas.List.Quantifiers.{position-Some}
-use Rattle.ep_logic.specs.AgentSets.{is_nobody, first_agents}
+use Rattle.ep_logic.specs.AgentSets.{is_nobody}
 use Rattle.ep_logic.specs.declared.formula.Node.{Node}
 use Rattle.ep_logic.specs.declared.formula.Node.TheVariants as node
 use Rattle.ep_theory.specs.Fits.{fits_in}
@@ -23,12 +23,11 @@ use Rattle.ep_tree.specs.declared.tree.FormulaTree.TheOpen.{FormulaTree-F}
 use Rattle.ep_tree.specs.declared.tree.FormulaTree.TheFolds.{map-FormulaTree, fold-roll-FormulaTree, ind-FormulaTree}
 use Rattle.ep_types.specs.Faults.{first_fault, first_row, table, is_apart, has_other_count}
 use Rattle.ep_types.specs.Names.{Text, Typings, declared, is_text, is_below, names_of, values_of}
-use Rattle.ep_types.specs.Places.{Scope, Uses, with_param, with_params, type_of, or_object, nothing, both, at, each, UsedFluent, Argument, Agent, Group, Knowledge}
+use Rattle.ep_types.specs.Places.{Scope, Uses, with_param, with_params, type_of, or_object, both, at, each, UsedFluent, Argument, Agent, Group, Knowledge}
 use Rattle.ep_types.specs.Uses.{param_uses, argument_uses, kinds_of, atom_uses, agent_uses, group_uses, knower_uses, knowers_uses, production, formula_uses}
-use Rattle.ep_types.specs.declared.fault.TypeFault.{TypeFault}
 use Rattle.ep_types.specs.declared.scope.Declared.{Declared}
 use Rattle.ep_universe.specs.declared.atoms.GroundAtom.{GroundAtom}
-use Rattle.ep_universe.specs.Objects.{Binding, type_at, has_type, objects_of, agents_of, or_number, object_at, agent_of, agent_at, group_of, eight, candidates, bound}
+use Rattle.ep_universe.specs.Objects.{Binding, type_at, has_type, objects_of, agents_of, or_number, object_at, agent_at, group_of, candidates, bound}
 use Rattle.ep_universe.specs.Atoms.{atoms_at, atoms_from, atoms_of, is_same, fluent_at, ground_atom, atom_at}
 use Rattle.ep_universe.specs.Formulas.{ground_of, ground_layer, instances}
 use Rattle.ep_universe.specs.Typing.{StandsFor, Suits}

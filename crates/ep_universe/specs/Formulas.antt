@@ -1,5 +1,5 @@
 -- The ground form of a formula under a binding of the parameters in force.
-use Rattle.std.specs.Prelude.{ℕ, ◌==◌, List, [], ◌∷◌, ◌++◌, map, if◌then◌else◌}
+use Rattle.std.specs.Prelude.{◌==◌, List, [], ◌∷◌, ◌++◌, map, if◌then◌else◌}
 use Rattle.ep_logic.specs.declared.formula.Node.{Node}
 use Rattle.ep_logic.specs.declared.formula.Node.TheVariants as node
 use Rattle.ep_binding.specs.Bindings.{bindings}

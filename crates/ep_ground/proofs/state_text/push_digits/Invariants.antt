@@ -3,7 +3,6 @@ use Rattle.std.specs.List.{flat_map}
 use Rattle.ep_theory.specs.Kripke.{atom_at}
 use Rattle.ep_theory.specs.Numbers.{table}
 use Rattle.ep_ground.specs.StateText as spec
-use Rattle.ep_ground.specs.StateText.{line}
 use Rattle.ep_ground.proofs.state_text.push_digits.Given as goal
 
 abbrev pub invariant-loop-atom : goal.invariant-loop-atom

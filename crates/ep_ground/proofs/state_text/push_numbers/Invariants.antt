@@ -1,7 +1,6 @@
 use Rattle.std.proofs.Common.{◌≡◌, ◌++◌, take}
 use Rattle.std.specs.List.{flat_map}
 use Rattle.ep_ground.specs.StateText as spec
-use Rattle.ep_ground.specs.StateText.{line}
 use Rattle.ep_ground.proofs.state_text.push_numbers.Given as goal
 
 abbrev pub invariant-loop-number : goal.invariant-loop-number

@@ -1,4 +1,4 @@
-use Rattle.std.proofs.Common.{◌≡◌, ap, ◌∙◌, map}
+use Rattle.std.proofs.Common.{ap, ◌∙◌, map}
 use Rattle.ep_event.specs.Built.{set_of as built_set}
 use Rattle.ep_parts.specs.Actions.{set_of}
 use Rattle.ep_parts.proofs.LinkLemmas.{more_mapped}

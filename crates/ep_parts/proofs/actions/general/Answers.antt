@@ -1,6 +1,6 @@
-use Rattle.std.proofs.Common.{◌≡◌, false, IfErr, IfOk, OnOk, subst, sym, ap, ◌∙◌, arith}
+use Rattle.std.proofs.Common.{◌≡◌, false, IfErr, IfOk, OnOk, subst, sym}
 use Rattle.ep_parts.specs.Actions.{assigns_twice, events_of}
-use Rattle.ep_parts.specs.Answers.{Refuses, IsOfBody}
+use Rattle.ep_parts.specs.Answers.{Refuses}
 use Rattle.ep_parts.proofs.ActionLemmas.{IsReply, general_reply, few_links, few_ids, few_parts}
 use Rattle.ep_parts.proofs.actions.general.Goals as goal
 

@@ -1,4 +1,4 @@
-use Rattle.std.proofs.Common.{◌<◌, ◌≤◌, ap, sym, ◌∙◌, arith}
+use Rattle.std.proofs.Common.{ap, arith}
 use Rattle.ep_logic.specs.Nodes.{node_count, depth_of}
 use Rattle.ep_universe.proofs.CountLemmas.{counted}
 use Rattle.ep_universe.proofs.DepthLemmas.{shallow}

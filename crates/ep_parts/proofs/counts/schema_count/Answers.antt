@@ -1,4 +1,4 @@
-use Rattle.std.proofs.Common.{◌≡◌, ◌≤◌, All, length, ap, sym, ◌∙◌, subst}
+use Rattle.std.proofs.Common.{◌≤◌, All, length, sym, ◌∙◌, subst}
 use Rattle.ep_binding.specs.Bindings.{IsObjects}
 use Rattle.ep_types.specs.Tasks.{declarations}
 use Rattle.ep_universe.specs.Objects.{candidates}

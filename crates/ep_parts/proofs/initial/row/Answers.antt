@@ -1,8 +1,8 @@
-use Rattle.std.proofs.Common.{◌≡◌, ◌++◌, ◌∷◌, [], map, take, length, ap, sym, ◌∙◌, subst, arith}
+use Rattle.std.proofs.Common.{◌≡◌, ◌++◌, ◌∷◌, [], map, take, ap, ◌∙◌}
 use Rattle.std.proofs.lemmas.List.{take_all}
 use Rattle.ep_theory.specs.Numbers.{has_number, table}
 use Rattle.ep_universe.specs.Atoms.{atom_at}
-use Rattle.ep_parts.proofs.InitialLemmas.{IsRow, row_more, row_skip, row_all}
+use Rattle.ep_parts.proofs.InitialLemmas.{row_more, row_skip, row_all}
 use Rattle.ep_parts.proofs.LinkLemmas.{map_more}
 use Rattle.ep_parts.proofs.initial.row.Goals as goal
 use Rattle.ep_parts.proofs.initial.row.Goals.{then-id-atoms, else-id-atoms}

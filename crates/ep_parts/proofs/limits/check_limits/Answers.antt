@@ -1,4 +1,4 @@
-use Rattle.std.proofs.Common.{◌≡◌, refl}
+use Rattle.std.proofs.Common.{refl}
 use Rattle.ep_types.specs.Tasks.{declarations}
 use Rattle.ep_parts.specs.Faults.{limit_fault}
 use Rattle.ep_parts.specs.Within.{IsWithinLimits}

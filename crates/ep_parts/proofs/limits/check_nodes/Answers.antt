@@ -1,4 +1,4 @@
-use Rattle.std.proofs.Common.{◌≡◌, ◌≤◌, All, length, sym, ◌∙◌, subst}
+use Rattle.std.proofs.Common.{◌≤◌, All, length, sym, ◌∙◌, subst}
 use Rattle.ep_types.specs.Tasks.{declarations}
 use Rattle.ep_parts.proofs.ReadLemmas.{few_formulas, few_times}
 use Rattle.ep_parts.proofs.limits.check_nodes.Goals as goal

@@ -1,4 +1,4 @@
-use Rattle.std.proofs.Common.{◌≡◌, ◌≤◌, length, ap, sym, ◌∙◌, subst}
+use Rattle.std.proofs.Common.{◌≤◌, length, ap, sym, ◌∙◌, subst}
 use Rattle.ep_parts.proofs.ReadLemmas.{few_fluents, few_schemas}
 use Rattle.ep_parts.proofs.limits.check_rows.Goals as goal
 

@@ -1,4 +1,4 @@
-use Rattle.std.proofs.Common.{◌≡◌, ap, sym, ◌∙◌, unwrap_or, position}
+use Rattle.std.proofs.Common.{ap, ◌∙◌, unwrap_or, position}
 use Rattle.ep_types.specs.Names.{is_text}
 use Rattle.ep_parts.proofs.LinkLemmas.{same_place}
 use Rattle.ep_parts.proofs.links.place_of.Goals as goal

@@ -1,4 +1,4 @@
-use Rattle.std.proofs.Common.{◌≡◌, ◌≢◌, All, sym, subst}
+use Rattle.std.proofs.Common.{◌≢◌, All, sym, subst}
 use Rattle.ep_types.specs.Names.{Text}
 use Rattle.ep_parts.proofs.LinkLemmas.{new_name}
 use Rattle.ep_parts.proofs.links.world_table.Goals as goal

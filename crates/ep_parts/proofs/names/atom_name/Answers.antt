@@ -1,7 +1,6 @@
 use Rattle.std.proofs.Common.{◌≡◌, length, get_or, ap, sym, ◌∙◌, arith}
 use Rattle.std.proofs.lemmas.Result.{IfOk-weaker}
 use Rattle.ep_name.specs.Names.{printed_at}
-use Rattle.ep_types.specs.Tasks.{declarations}
 use Rattle.ep_parts.proofs.NameLemmas.{many_fluents, fluent_named}
 use Rattle.ep_parts.proofs.names.atom_name.Goals as goal
 

@@ -1,4 +1,4 @@
-use Rattle.std.proofs.Common.{◌≡◌, true, cond, Some, None, map, ap, sym, ◌∙◌, subst}
+use Rattle.std.proofs.Common.{◌≡◌, true, cond, Some, None, ap, sym, ◌∙◌, subst}
 use Rattle.ep_name.specs.Names.{printed_at}
 use Rattle.ep_parts.specs.declared.fault.GroundError.TheVariants as fault
 use Rattle.ep_parts.specs.Actions.{action_of, action_at, assigns_twice}

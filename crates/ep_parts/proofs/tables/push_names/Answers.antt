@@ -2,7 +2,6 @@ use Rattle.std.proofs.Common.{◌≡◌, ◌++◌, ◌∷◌, [], ◌<◌, All, 
 use Rattle.std.proofs.lemmas.List.{length-map}
 use Rattle.std.proofs.lemmas.List.Elements.{All-get_or}
 use Rattle.ep_name.specs.Names.{printed_at}
-use Rattle.ep_types.specs.Names.{names_of}
 use Rattle.ep_parts.specs.Actions.{schema_bindings}
 use Rattle.ep_parts.specs.PrintedNames.{action_name}
 use Rattle.ep_parts.proofs.LinkLemmas.{map_more}

@@ -1,4 +1,4 @@
-use Rattle.std.proofs.Common.{◌≡◌, ◌≢◌, All, sym, subst}
+use Rattle.std.proofs.Common.{◌≢◌, All, sym, subst}
 use Rattle.ep_types.specs.Names.{Text}
 use Rattle.ep_parts.proofs.DifferLemmas.{new_text}
 use Rattle.ep_parts.proofs.tables.table_of.Goals as goal

@@ -1,7 +1,5 @@
 use Rattle.std.proofs.Common.{◌≡◌, ◌++◌, map, take}
-use Rattle.std.specs.List.{flat_map}
-use Rattle.ep_types.specs.Tasks.{declarations}
-use Rattle.ep_parts.specs.Written.{written, values_of, event_formulas, schema_formulas}
+use Rattle.ep_parts.specs.Written.{written, values_of}
 use Rattle.ep_parts.proofs.written.push_values.Given as goal
 
 abbrev pub invariant-loop-set : goal.invariant-loop-set

@@ -1,4 +1,4 @@
-use Rattle.std.proofs.Common.{◌≡◌, All, ap, sym, ◌∙◌, subst}
+use Rattle.std.proofs.Common.{All, ap, sym, ◌∙◌, subst}
 use Rattle.ep_parts.proofs.CandidateLemmas.{HasFewParams, few_params}
 use Rattle.ep_parts.proofs.written.task_formulas.Goals as goal
 

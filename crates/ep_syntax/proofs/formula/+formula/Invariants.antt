@@ -1,4 +1,4 @@
-use Rattle.std.proofs.Common.{ℕ, ◌+◌, ◌-◌, ◌*◌, ◌∷◌}
+use Rattle.std.proofs.Common.{◌+◌, ◌-◌, ◌*◌, ◌∷◌}
 use Rattle.ep_syntax.specs.FormulaReading.{formula, some_behind}
 use Rattle.ep_syntax.specs.Reading.{made, behind_key}
 use Rattle.ep_tree.specs.Terminals.{is}

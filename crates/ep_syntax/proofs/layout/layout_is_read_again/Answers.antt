@@ -1,6 +1,5 @@
-use Rattle.std.proofs.Common.{◌≡◌, refl, sym, subst}
+use Rattle.std.proofs.Common.{refl, sym, subst}
 use Rattle.ep_tree.specs.Grammar.{tasks, spelling_of, Reads}
-use Rattle.ep_syntax.specs.Layout.{layout_of}
 use Rattle.ep_syntax.specs.TaskReading.{task}
 use Rattle.ep_syntax.proofs.LayoutTokens.{some-laid_out, spellings-laid_out}
 use Rattle.ep_syntax.proofs.Readable.{found, found_reads, only_same}

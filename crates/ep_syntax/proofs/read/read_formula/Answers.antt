@@ -1,6 +1,5 @@
 use Rattle.ep_lex.specs.Tokens.{spellings}
 use Rattle.ep_syntax.specs.FormulaReading.{formula, whole_formula}
-use Rattle.ep_syntax.specs.Gives.{Says}
 use Rattle.ep_tree.specs.Grammar.{formulas}
 use Rattle.ep_syntax.specs.Reading.{whole}
 use Rattle.ep_syntax.proofs.FormulaLaws.{formula_outcome}

@@ -1,6 +1,5 @@
 use Rattle.ep_lex.specs.Tokens.{spellings}
 use Rattle.ep_syntax.specs.TaskReading.{task, whole_task}
-use Rattle.ep_syntax.specs.Gives.{Says}
 use Rattle.ep_tree.specs.Grammar.{tasks}
 use Rattle.ep_syntax.specs.Reading.{whole}
 use Rattle.ep_syntax.proofs.TaskLaws.{task_outcome}

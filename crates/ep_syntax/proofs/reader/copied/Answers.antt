@@ -1,4 +1,3 @@
-use Rattle.std.proofs.Common.{◌≡◌}
 use Rattle.ep_syntax.proofs.Sources.{name_ascii}
 use Rattle.ep_syntax.proofs.reader.copied.Goals as goal
 

@@ -1,7 +1,6 @@
-use Rattle.std.proofs.Common.{◌≡◌, ◌+◌, ◌<◌, ◌≤◌, All, length, map, get_or, ap, sym, ◌∙◌, subst, arith}
+use Rattle.std.proofs.Common.{◌≡◌, ◌≤◌, All, length, map, get_or, ap, sym, ◌∙◌, subst, arith}
 use Rattle.std.proofs.lemmas.List.{length-map}
 use Rattle.ep_binding.specs.Bindings.{bindings}
-use Rattle.ep_tree.specs.declared.tree.Name.{Name}
 use Rattle.ep_types.specs.Atoms.{texts}
 use Rattle.ep_types.specs.Tasks.{declarations}
 use Rattle.ep_universe.specs.Objects.{objects_of}

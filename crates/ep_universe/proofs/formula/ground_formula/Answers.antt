@@ -1,4 +1,4 @@
-use Rattle.std.proofs.Common.{◌≡◌, ◌≤◌, [], length, IsTrue, ap, sym, ◌∙◌, subst, arith}
+use Rattle.std.proofs.Common.{[], length, IsTrue, ap, sym, ◌∙◌, subst, arith}
 use Rattle.ep_logic.specs.declared.formula.Node.{Node}
 use Rattle.ep_theory.specs.Fits.{fits_in}
 use Rattle.ep_types.specs.Faults.{first_fault}

@@ -1,7 +1,5 @@
-use Rattle.std.proofs.Common.{◌≡◌, ◌+◌, List, length, drop, Some, sym, ap, ◌∙◌}
+use Rattle.std.proofs.Common.{◌+◌, drop, Some, sym, ap, ◌∙◌}
 use Rattle.std.specs.Option.{option_map}
-use Rattle.std.specs.Prelude.{slice_get}
-use Rattle.std.proofs.lemmas.Option.{slice_get_past}
 use Rattle.ep_lex.specs.Tokens.{spelling}
 use Rattle.ep_syntax.specs.Reading.{first_token}
 use Rattle.ep_syntax.proofs.Sources.{within_at, piece_at, first_token-ahead}

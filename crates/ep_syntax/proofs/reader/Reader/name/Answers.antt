@@ -1,4 +1,4 @@
-use Rattle.std.proofs.Common.{◌≡◌, Bool, true, false, Ok, Err, sym, ap, ◌∙◌}
+use Rattle.std.proofs.Common.{◌≡◌, true, false, Err, sym, ap, ◌∙◌}
 use Rattle.ep_lex.specs.Tokens.{spellings}
 use Rattle.ep_tree.specs.Terminals.{is_name}
 use Rattle.ep_syntax.specs.Reading.{Syntax}

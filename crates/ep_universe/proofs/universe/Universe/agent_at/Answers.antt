@@ -1,4 +1,4 @@
-use Rattle.std.proofs.Common.{◌≡◌, ap, ◌∙◌, position, unwrap_or}
+use Rattle.std.proofs.Common.{ap, ◌∙◌, position, unwrap_or}
 use Rattle.std.specs.Prelude.{◌==◌}
 use Rattle.ep_universe.specs.Objects.{agents_of, object_at}
 use Rattle.ep_universe.proofs.universe.Universe.agent_at.Goals as goal

@@ -1,4 +1,4 @@
-use Rattle.std.proofs.Common.{◌≡◌, ap, ◌∙◌, position, unwrap_or}
+use Rattle.std.proofs.Common.{ap, ◌∙◌, position, unwrap_or}
 use Rattle.ep_universe.specs.Atoms.{atoms_of, ground_atom, is_same}
 use Rattle.ep_universe.proofs.universe.Universe.atom_at.Goals as goal
 

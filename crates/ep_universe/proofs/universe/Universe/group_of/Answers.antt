@@ -1,4 +1,4 @@
-use Rattle.std.proofs.Common.{◌≡◌, ◌<◌, false, true, drop, length, map, IsTrue, ap, sym, ◌∙◌, subst}
+use Rattle.std.proofs.Common.{drop, length, map, IsTrue, ap, ◌∙◌, subst}
 use Rattle.ep_logic.specs.AgentSets.{is_nobody}
 use Rattle.ep_theory.specs.Numbers.{has_number}
 use Rattle.ep_universe.specs.Limits.{IsWithin}

@@ -1,4 +1,4 @@
-use Rattle.std.proofs.Common.{◌≡◌, ◌<◌, true, set, get_or, ap, sym, ◌∙◌, subst, arith}
+use Rattle.std.proofs.Common.{◌≡◌, ◌<◌, true, set, get_or, ap, ◌∙◌, subst, arith}
 use Rattle.ep_universe.specs.Objects.{agent_at}
 use Rattle.ep_universe.proofs.GroupLemmas.{group-more}
 use Rattle.ep_universe.proofs.universe.Universe.members.Goals as goal

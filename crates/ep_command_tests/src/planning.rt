@@ -27,7 +27,7 @@ impl Guide for Deepest {
 }
 
 // Runs the words with one guide, which likes deep states.
-fn deepest(
+fn ran_deepest(
     alloc: Global,
     words: &[String],
     files: &mut MemoryLibrary,
@@ -49,7 +49,7 @@ fn deepest_tells(
     let words = strings(alloc, words)?;
     let mut files = library(alloc, task, &[])?;
     let mut out = sink(alloc, &[])?;
-    let status = deepest(alloc, &words, &mut files, &mut out)?;
+    let status = ran_deepest(alloc, &words, &mut files, &mut out)?;
     is_told(rt, &out, status, 0, text);
     Ok(())
 }

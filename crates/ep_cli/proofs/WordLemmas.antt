@@ -1,9 +1,9 @@
 -- The words of commands: their files, and the bounds that they give.
-use Rattle.std.proofs.Common.{◌≡◌, ℕ, ◌<◌, ◌≤◌, Bool, List, [], ◌∷◌, length, map, Option, Some, None, unwrap_or, IfSome, ap, subst, sym, refl, arith}
+use Rattle.std.proofs.Common.{◌≡◌, ℕ, ◌<◌, ◌≤◌, Bool, List, [], ◌∷◌, length, Option, Some, None, unwrap_or, IfSome, ap, subst, sym, arith}
 use Rattle.ep_search.specs.Limits.{IsBounds}
 use Rattle.ep_words.specs.Options.{AreOptions, no_options, and_option, IsWithin, plan_of}
 use Rattle.ep_words.specs.Options as opt
-use Rattle.ep_words.specs.Words.{IsCommand, IsPlanned}
+use Rattle.ep_words.specs.Words.{IsCommand}
 use Rattle.ep_words.specs.declared.command.Bounds.{Bounds}
 use Rattle.ep_words.specs.declared.command.Command.{Command}
 use Rattle.ep_words.specs.declared.command.Command.TheVariants.{Plan, Validate, Eval, State, Contract, Same, Check, Trial}

@@ -1,5 +1,5 @@
 -- The formula of a word, as a step of the work.
-use Rattle.std.proofs.Common.{◌≡◌, ◌⊎◌, ◌≤◌, ◌+◌, ℕ, List, [], length, Option, Some, None, MatchOption, inl, inr, refl, sym, subst}
+use Rattle.std.proofs.Common.{◌≡◌, ◌≤◌, ◌+◌, ℕ, List, length, Option, Some, None, MatchOption, inl, inr, refl, sym, subst}
 use Rattle.ep_lex.specs.Tokens.{Lexed, spellings}
 use Rattle.ep_logic.specs.declared.formula.Node.{Node}
 use Rattle.ep_tree.specs.Grammar.{formulas, Reads}

@@ -1,6 +1,6 @@
 -- The plan of a word and its run, as steps of the work.
 use Rattle.std.specs.Str.{bytes_eq}
-use Rattle.std.proofs.Common.{◌≡◌, ◌≢◌, ◌⊎◌, ◌≤◌, ℕ, Bool, false, ◌∙◌, List, [], length, Option, Some, None, MatchOption, IfSome, inl, inr, refl, sym, subst}
+use Rattle.std.proofs.Common.{◌≡◌, ◌≢◌, ◌⊎◌, ℕ, Bool, false, ◌∙◌, List, [], Option, Some, MatchOption, IfSome, inl, inr, refl, sym, subst}
 use Rattle.ep_logic.specs.declared.ids.ActionId.{ActionId}
 use Rattle.ep_theory.specs.Kripke.{Kripke}
 use Rattle.ep_parts.specs.Task.{GroundTask}
@@ -9,7 +9,7 @@ use Rattle.ep_plan.specs.declared.runs.Outcome.TheVariants as run
 use Rattle.ep_plan_text.specs.PlanFiles.{IsFault, IsPlan}
 use Rattle.ep_plan_text.specs.declared.read.PlanError.{PlanError}
 use Rattle.ep_plan_text.specs.declared.read.PlanError.TheVariants as fault
-use Rattle.ep_io.specs.Library.{FileMap, LibraryState, file_of}
+use Rattle.ep_io.specs.Library.{FileMap, LibraryState}
 use Rattle.ep_answer.specs.declared.answer.Answer.TheVariants.{Refused, Stopped}
 use Rattle.ep_answer.specs.declared.answer.Stop.{Stop}
 use Rattle.ep_answer.specs.declared.answer.Stop.TheVariants.{Told, OutOfMemory}
@@ -21,7 +21,7 @@ use Rattle.ep_answer.specs.declared.run_stop.RunStop.{RunStop}
 use Rattle.ep_answer.specs.declared.run_stop.Whose.{Whose}
 use Rattle.ep_answer.specs.declared.status.Status.{Status}
 use Rattle.ep_answer.specs.Answer.{answer_status, answer_text}
-use Rattle.ep_reading.specs.PlanFile.{IsPlanCause, NamesPlan, PlanFile, PlanRead, Ran, RunStops, TellsPlanFault, no_plan, run_size}
+use Rattle.ep_reading.specs.PlanFile.{IsPlanCause, PlanFile, PlanRead, Ran, RunStops, no_plan, run_size}
 use Rattle.ep_reading.specs.Served.{Outcome, Answers, Fetched, Sized, answers}
 use Rattle.ep_reading.specs.Steps.{IsFetched, IsPlanFile, IsPlanWord, OnlyFile, OnlyPlan, StopsAtFetch, StopsAtPlan, StopsBy, StopsWork, nothing_behind}
 use Rattle.ep_reading.proofs.Lift.{StopsWork-more, all_held, behind_is_answer, file_read, some_map}

@@ -1,5 +1,5 @@
 -- How a step of the work goes on, and how it ends the work.
-use Rattle.std.proofs.Common.{◌≡◌, ℕ, List, ◌≤◌, length, Option, Some, None, MatchOption, ◌⊎◌, inl, inr, refl, sym, ap, subst, ◌∙◌, arith}
+use Rattle.std.proofs.Common.{◌≡◌, ℕ, List, length, Option, Some, None, MatchOption, ◌⊎◌, inl, inr, sym, ap, subst, ◌∙◌, arith}
 use Rattle.std.proofs.lemmas.List.{length-map}
 use Rattle.ep_lex.specs.Tokens.{Lexed, spellings, spelling}
 use Rattle.ep_tree.specs.Formed.{IsFormedTask}
@@ -23,7 +23,7 @@ use Rattle.ep_answer.specs.declared.cause.Cause.TheVariants as cause
 use Rattle.ep_answer.specs.declared.cause.Subject.{Subject}
 use Rattle.ep_answer.specs.declared.cause.Subject.TheVariants.{Task}
 use Rattle.ep_reading.specs.Served.{Outcome, AreLexed, Sized, Fetched, Tokenized, Parsed, Judged, TellsCause, Grounded, TaskRead, answers, place_at}
-use Rattle.ep_reading.specs.Steps.{IsTreeOf, IsGroundOf, IsTaskOf, StopsBy, nothing_behind}
+use Rattle.ep_reading.specs.Steps.{IsTreeOf, IsTaskOf, StopsBy, nothing_behind}
 
 -- ---- what may stand behind a step
 

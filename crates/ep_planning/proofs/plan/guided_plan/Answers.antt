@@ -1,5 +1,5 @@
 -- The guide at the place, if there is one.
-use Rattle.std.proofs.Common.{subst, sym, arith}
+use Rattle.std.proofs.Common.{arith}
 use Rattle.ep_planning.specs.Planning.{Plans}
 use Rattle.ep_reading.specs.Served.{TaskFile}
 use Rattle.ep_planning.proofs.GuideLemmas.{asked_at, no_guide_needs_none}

@@ -1,9 +1,7 @@
 -- What the plan leaves, or where its run stops.
 use Rattle.std.proofs.Common.{subst, sym}
 use Rattle.ep_theory.specs.PlanningTask.{PlanningTask}
-use Rattle.ep_plan.specs.Runs.{AreOf, RunUnder}
-use Rattle.ep_plan.specs.declared.runs.Outcome.{Outcome}
-use Rattle.ep_reading.specs.PlanFile.{run_size}
+use Rattle.ep_plan.specs.Runs.{AreOf}
 use Rattle.ep_answer.specs.declared.run_stop.RunStop.TheVariants.{Stuck, SpentWorlds, SpentLinks}
 use Rattle.ep_reading.proofs.PlanFileLemmas.{ran_stops}
 use Rattle.ep_reading.proofs.RunLemmas.{actions_of_problem, left_of_run, run_is}

@@ -153,6 +153,23 @@ impl Drop for Stop {
     }
 }
 
+impl Stop {
+    ghost use Rattle.std.specs.Prelude.{IfOk, Ok};
+    ghost use Rattle.ep_answer.specs.declared.answer.Answer.{Answer};
+    ghost use Rattle.ep_answer.specs.declared.answer.Stop.TheVariants.{Told};
+
+    /// The answer that ends the work, or out of memory.
+    pub fn into_answer(self) -> Result<Answer, OutOfMemory>
+        ensures ok { IfOk result (λ answer. self ≡ Told answer) }
+        ensures told { (answer : Answer) → self ≡ Told answer → result ≡ Ok answer }
+    {
+        match self {
+            Stop::Told(answer) => Ok(answer),
+            Stop::OutOfMemory => Err(OutOfMemory {}),
+        }
+    }
+}
+
 impl From<OutOfMemory> for Stop {
     ghost use Rattle.std.specs.Prelude.{◌≡◌};
     ghost use Rattle.ep_answer.specs.declared.answer.Stop.TheVariants as stop;

@@ -75,10 +75,11 @@ fn faults_name_their_file(rt: HostRuntime) -> Result<(), Fail> {
 #[test]
 fn long_texts_are_refused(rt: HostRuntime) -> Result<(), Fail> {
     let blanks = " ".repeat(rt.alloc(), 1_048_577)?;
-    let files = (COIN, [blanks.as_str(), ""]);
+    let long = blanks.as_str();
+    let plans = [long, ""];
     let plan = "refused: plan: too long\n";
-    tells_of_plans(&rt, rt.alloc(), files, &["validate", "t", "a"], 3, plan)?;
-    let words = ["eval", "t", "-", blanks.as_str()];
+    tells_of_plans(&rt, rt.alloc(), (COIN, plans), &["validate", "t", "a"], 3, plan)?;
+    let words = ["eval", "t", "-", long];
     let formula = "refused: formula: too long\n";
     tells_of_plans(&rt, rt.alloc(), (COIN, ["", ""]), &words, 3, formula)
 }

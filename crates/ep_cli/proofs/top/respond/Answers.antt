@@ -12,10 +12,10 @@ returns-in-Ok-serve-clause-asked g c b guide first are some needs = c.in-Ok-serv
 
 pub returns-in-Err-serve-clause-answer : goal.returns-in-Err-serve-clause-answer
 returns-in-Err-serve-clause-answer g c =
-    if_told _ c.answer_of.result c.in-Err-serve.stop c.answer_of.ensures
+    if_told _ c.into_answer.result c.in-Err-serve.stop c.into_answer.ensures.ok
     (λ answer is. let told = rw is at c.in-Err-serve.ensures.answer in IsAnswer-command _ _ c.in-Ok.command _ _ _ _ c.in-Ok.ensures.command c.in-Ok.ensures.only told)
 
 pub returns-in-Err-serve-clause-asked : goal.returns-in-Err-serve-clause-asked
 returns-in-Err-serve-clause-asked g c =
-    if_told _ c.answer_of.result c.in-Err-serve.stop c.answer_of.ensures
+    if_told _ c.into_answer.result c.in-Err-serve.stop c.into_answer.ensures.ok
     (λ answer is b guide first are some needs. let asked = rw is at c.in-Err-serve.ensures.asked in asked b guide first (sym (c.in-Ok.ensures.only (Plan b guide first) are)) some needs)

@@ -84,9 +84,6 @@ shared-all a cs h =
 power-six : (n : ℕ) → n ≤ 6 → 64 ^ n ≤ 68719476736
 power-six n h = let p : 64 ^ n ≤ 64 ^ 6 = pow-le-pow_right (omega arith) h in omega arith
 
-pub distinct-most : (cs : List (List ℕ)) → length cs ≤ 6 → All IsObjects cs → length (distinct_bindings cs) ≤ 68719476736
-distinct-most cs h k = let a = distinct-within cs k in let b = power-six (length cs) h in omega arith
-
 pub count-most : (cs : List (List ℕ)) → length cs ≤ 6 → All (λ c. length c ≤ 64) cs → binding_count cs ≤ 68719476736
 count-most cs h k = let a = count-within cs k in let b = power-six (length cs) h in omega arith
 

@@ -15,17 +15,6 @@ filter-push p (y ∷ ys) x = ap (λ zs. cond (p y) (y ∷ zs) zs) (filter-push p
     by true = refl
     by false = refl
 
--- an item more of a list that is filtered, which passes or not
-pub filter_keep : {X : Type 0} (p : X → Bool) (xs : List X) (i : ℕ) (x : X) → i < length xs → x ≡ get_or xs i x → p x ≡ true → filter p (take (i + 1) xs) ≡ filter p (take i xs) ++ x ∷ []
-filter_keep p xs i x l here h =
-    ap (filter p) (take_more xs i x l) ∙ ap (λ z. filter p (take i xs ++ z ∷ [])) (sym here) ∙ filter-push p (take i xs) x
-    ∙ ap (λ b. filter p (take i xs) ++ cond b (x ∷ []) []) h
-
-pub filter_drop : {X : Type 0} (p : X → Bool) (xs : List X) (i : ℕ) (x : X) → i < length xs → x ≡ get_or xs i x → p x ≡ false → filter p (take (i + 1) xs) ≡ filter p (take i xs)
-filter_drop p xs i x l here h =
-    ap (filter p) (take_more xs i x l) ∙ ap (λ z. filter p (take i xs ++ z ∷ [])) (sym here) ∙ filter-push p (take i xs) x
-    ∙ ap (λ b. filter p (take i xs) ++ cond b (x ∷ []) []) h ∙ append-nil (filter p (take i xs))
-
 -- tables of equal values
 pub table-same : {X : Type 0} (f g : ℕ → X) (n : ℕ) → ((i : ℕ) → i < n → f i ≡ g i) → table f n ≡ table g n
 table-same f g zero h = refl

@@ -31,18 +31,6 @@ pub record IsReadTo (bytes : List ℕ) (at line count : ℕ) (kept : List Token)
   pub kept_are : kept ≡ take 262144 (tokens_behind [] pieces)
   pub few : count ≤ at
 
-pub IsReadTo-start : (bytes : List ℕ) → IsReadTo bytes 0 1 0 []
-IsReadTo-start bytes = record {
-  pieces = [];
-  before = tt;
-  joined_is = refl;
-  within = omega arith;
-  line_is = refl;
-  count_is = refl;
-  kept_are = refl;
-  few = omega arith;
-}
-
 -- the text in front of the next piece, and the piece
 module _ (bytes : List ℕ) (at line count : ℕ) (kept : List Token) (r : IsReadTo bytes at line count kept)
     (kind : PieceKind) (len : ℕ) (n : IsFront (drop at bytes) kind len) where

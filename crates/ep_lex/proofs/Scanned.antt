@@ -45,9 +45,6 @@ not_false : (b : Bool) → not b ≡ true → b ≡ false
 not_false true e = absurd (false≢true e)
 not_false false e = refl
 
-or_same : (b : Bool) → (not true || b) ≡ true → b ≡ true
-or_same b e = e
-
 -- The front piece is the one that is scanned.
 scan_word : (b : ℕ) (bs rest : List ℕ) → is_letter b ≡ true → list_all is_word_byte bs ≡ true → length bs ≤ 63 → stops is_word_byte rest ≡ true
     → scan (b ∷ (bs ++ rest)) ≡ Ok (Spelling Word, b ∷ bs, rest)

@@ -9,7 +9,7 @@ use Rattle.std.specs.List.{list_all}
 use Rattle.ep_lex.specs.declared.token.TokenKind.TheVariants.{Word, Number, Mark}
 use Rattle.ep_lex.specs.declared.token.PieceKind.{PieceKind}
 use Rattle.ep_lex.specs.declared.token.PieceKind.TheVariants.{Blank, Comment, Spelling}
-use Rattle.ep_lex.specs.Pieces.{is_letter, is_digit, is_word_byte, is_mark_byte, is_equals, is_colon, is_piece, ends, stops, is_full, is_full_at, is_comment, last_piece, Begins, Piece, Split, IsStray}
+use Rattle.ep_lex.specs.Pieces.{is_letter, is_digit, is_word_byte, is_mark_byte, is_equals, is_colon, is_piece, ends, is_full, is_full_at, is_comment, last_piece, Begins, Piece, Split, IsStray}
 use Rattle.ep_lex.specs.Scan.{Scanned, scan, lengths}
 use Rattle.ep_lex.proofs.Scanned.{IsScanned, scan_is, scan_piece, never_empty, letter_alone, digit_alone, take_while-append_all, take_while-first}
 
@@ -37,11 +37,6 @@ ends-nil Comment text = refl
 ends-nil (Spelling Word) text = refl
 ends-nil (Spelling Number) text = refl
 ends-nil (Spelling Mark) text = grind arith
-
-stops-take : (p : ℕ → Bool) (j : ℕ) (r : List ℕ) → stops p r ≡ true → stops p (take j r) ≡ true
-stops-take p zero r e = refl
-stops-take p (suc j) [] e = refl
-stops-take p (suc j) (b ∷ bs) e = e
 
 ends-take : (s : PieceKind) (text : List ℕ) (j : ℕ) (r : List ℕ) → ends s text r ≡ true → ends s text (take j r) ≡ true
 ends-take s text zero r e = ends-nil s text

@@ -1,10 +1,10 @@
 -- What the builder of states answers for parts that an explicit state gives.
-use Rattle.std.proofs.Common.{◌≡◌, ℕ, zero, suc, ◌+◌, ◌<◌, ◌≤◌, Bool, true, false, not, ◌||◌, ◌==◌, None, Result, Ok, Err, IfOk, IfErr, List, [], ◌∷◌, ◌++◌, length, map, get_or, set, replicate, position, refl, ap, sym, ◌∙◌, subst, arith, inl, inr, nat_lt, eq-eqb}
+use Rattle.std.proofs.Common.{◌≡◌, ℕ, zero, suc, ◌+◌, ◌<◌, ◌≤◌, Bool, true, false, not, ◌||◌, ◌==◌, None, Result, Ok, Err, IfOk, IfErr, List, [], ◌∷◌, ◌++◌, length, map, get_or, set, position, refl, ap, sym, ◌∙◌, subst, arith, inl, inr, nat_lt, eq-eqb}
 use Rattle.std.specs.List.{AllByRecursion}
 use Rattle.std.proofs.lemmas.Bool.{ne_eqb, cases_eq, cases_lt}
 use Rattle.std.proofs.lemmas.Bool.Decides.{nat_tests}
 use Rattle.std.proofs.lemmas.Option.{none-some}
-use Rattle.std.proofs.lemmas.List.{length-map, same_lists, get_or_past, length-set, length-replicate, get_or-replicate, get_or-set_same, get_or-set_other}
+use Rattle.std.proofs.lemmas.List.{length-map, same_lists, get_or_past, length-set, get_or-set_same, get_or-set_other}
 use Rattle.std.proofs.lemmas.List.Folds.{list_any-append}
 use Rattle.ep_logic.specs.declared.ids.WorldId.{WorldId}
 use Rattle.ep_theory.specs.Rising.{IsIn, IsRising}
@@ -40,9 +40,6 @@ use Rattle.ep_parts.proofs.MadeLemmas.{no_position, place_below, pairs_below, fe
 pub record IsRow (n : ℕ) (xs : List ℕ) (row : List Bool) : Type 0 where
   pub long : length row ≡ n
   pub each : (i : ℕ) → i < n → get_or row i false ≡ has_number xs i
-
-pub row_none : (n : ℕ) → IsRow n [] (replicate n false)
-row_none n = record { long = length-replicate n false; each = λ i l. get_or-replicate n i false false l }
 
 number-push : (xs : List ℕ) (x i : ℕ) → has_number (xs ++ x ∷ []) i ≡ (has_number xs i || (x == i))
 number-push xs x i = list_any-append (λ y. y == i) xs (x ∷ []) ∙ ap (λ b. has_number xs i || b) (or-false (x == i))

@@ -2,9 +2,8 @@
 use Rattle.std.proofs.Common.{◌≡◌, ℕ, zero, suc, ◌+◌, Bool, true, false, List, [], ◌∷◌, ◌++◌, length, Ok, Err, refl, sym, ap, ◌∙◌, append_assoc, append-nil}
 use Rattle.ep_syntax.specs.declared.error.SyntaxError.{SyntaxError}
 use Rattle.ep_syntax.specs.declared.error.SyntaxError.TheVariants as error
-use Rattle.ep_tree.specs.declared.terminal.Terminal.{Terminal}
 use Rattle.ep_syntax.specs.Gives.{Stops}
-use Rattle.ep_syntax.specs.Reading.{Token, Fault, Syntax, TooDeep, Read, Reader, seq, paired, made, heads, each_by, each, front, behind_key, listed}
+use Rattle.ep_syntax.specs.Reading.{Token, Fault, Syntax, TooDeep, Read, Reader, seq, paired, made, heads, each_by, each, front}
 use Rattle.ep_tree.specs.Terminals.{is}
 
 -- the rest of the list, behind the items that were found, is what the reader of lists gives
@@ -58,15 +57,3 @@ module _ {A : Type 0} (test : Token → Bool) (item : Reader A) where
   going_stops rest f g b error.OutOfMemory s = tt
   going_stops rest f g b (error.Syntax token) s = going_fault rest f g b (Syntax token) s
   going_stops rest f g b (error.TooDeep token) s = going_fault rest f g b (TooDeep token) s
-
-front-paired : {A : Type 0} (a : A) (r : Read (List A)) → made front (paired a r) ≡ made (λ xs. a ∷ xs) r
-front-paired a (Ok y) = refl
-front-paired a (Err e) = refl
-
--- an item and a list behind it
-pub going_behind : {A : Type 0} (t : Terminal) (item : Reader A) (n : ℕ) (ts : List Token) (x : A × ℕ × List Token) → item n ts ≡ Ok x → (fuel : ℕ) → fuel ≡ length x.2
-    → Going (is t) (behind_key t item) fuel (x.0 ∷ []) x.1 x.2 (listed t item n ts)
-going_behind t item n ts x e fuel l = record {
-  so_far = ap (λ k. made (λ xs. x.0 ∷ xs) (each_by k (is t) (behind_key t item) x.1 x.2)) l ∙ sym (front-paired x.0 (each (is t) (behind_key t item) x.1 x.2))
-      ∙ ap (λ z. made front (seq z (each (is t) (behind_key t item)))) (sym e);
-}

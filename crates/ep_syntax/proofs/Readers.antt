@@ -98,10 +98,6 @@ pub next_lacks : (t : Terminal) (test : Token → Bool) → test (text_of t) ≡
 next_lacks t test e [] s = refl
 next_lacks t test e (u ∷ us) s = ap test (is-true t u s) ∙ e
 
-pub begins-first : (t : Terminal) (ts : List Token) → Next t ts → (rest : List Token) × (ts ≡ text_of t ∷ rest)
-begins-first t [] s = absurd (false≢true s)
-begins-first t (u ∷ us) s = (us, ap (λ z. z ∷ us) (is-true t u s))
-
 -- A terminal's mark, which may hold its place and have a nesting.
 pub record IsMark (t : Terminal) (mark : ℕ → Mark) : Type 0 where
   pub text : (place : ℕ) → (mark place).text ≡ text_of t

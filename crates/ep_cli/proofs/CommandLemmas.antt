@@ -1,5 +1,5 @@
 -- What a command answers, by its words.
-use Rattle.std.proofs.Common.{◌≡◌, ◌≤◌, ℕ, List, Result, inl, inr, sym, subst, ◌∙◌, ◌-◌, Bool}
+use Rattle.std.proofs.Common.{◌≡◌, ◌≤◌, ℕ, List, Result, inl, inr, sym, subst, ◌∙◌, Bool}
 use Rattle.ep_logic.specs.declared.ids.ActionId.{ActionId}
 use Rattle.ep_parts.specs.Task.{GroundTask}
 use Rattle.ep_io.specs.Library.{LibraryState}
@@ -14,8 +14,6 @@ use Rattle.ep_answer.specs.declared.answer.Answer.{Answer}
 use Rattle.ep_answer.specs.declared.answer.Stop.{Stop}
 use Rattle.ep_answer.specs.declared.cause.Subject.{Subject}
 use Rattle.ep_answer.specs.declared.cause.Subject.TheVariants.{Task}
-use Rattle.ep_question.specs.declared.question.Question.TheVariants.{Validate, Eval, State, Contract}
-use Rattle.ep_answer.specs.declared.trial_text.Trial.{Trial}
 use Rattle.ep_checking.specs.Checking.{Checks}
 use Rattle.ep_planning.specs.Trials.{Tries}
 use Rattle.ep_reading.specs.Served.{Outcome, TaskFile, TaskRead}

@@ -1,11 +1,9 @@
 -- Whether what was written rests on a guide.
-use Rattle.std.proofs.Common.{◌≡◌, ◌≤◌, ℕ, Bool, List, [], ◌∷◌, ◌++◌, Option, Some, None, Ok, drop, sym, ap, subst, ◌∙◌}
+use Rattle.std.proofs.Common.{◌≡◌, ◌≤◌, ℕ, Bool, List, [], ◌∷◌, ◌++◌, Option, Some, None, drop, sym, ap, subst, ◌∙◌}
 use Rattle.std.specs.Io.KnownBytes.{Appends}
 use Rattle.ep_words.specs.declared.command.Bounds.{Bounds}
 use Rattle.ep_words.specs.declared.command.Command.TheVariants.{Plan}
 use Rattle.ep_answer.specs.declared.answer.Answer.{Answer}
-use Rattle.ep_answer.specs.declared.answer.Answer.TheVariants.{Refused}
-use Rattle.ep_answer.specs.declared.answer.Stop.TheVariants.{OutOfMemory}
 use Rattle.ep_answer.specs.declared.status.Status.{Status}
 use Rattle.ep_answer.specs.declared.status.Status.TheVariants as done
 use Rattle.ep_answer.specs.Answer.{answer_status, answer_text}

@@ -1,20 +1,15 @@
 -- What a command answers its words answer.
-use Rattle.std.proofs.Common.{◌≡◌, ◌↔◌, ◌-◌, ℕ, List, inl, inr, refl, subst, Result, Ok, Err, IfOk}
+use Rattle.std.proofs.Common.{◌≡◌, ◌↔◌, ℕ, List, inl, inr, subst, Result, Ok, Err, IfOk}
 use Rattle.ep_io.specs.Library.{LibraryState}
 use Rattle.ep_words.specs.Words.{IsCommand}
 use Rattle.ep_words.specs.declared.command.Command.{Command}
 use Rattle.ep_answer.specs.declared.answer.Stop.TheVariants.{Told}
 use Rattle.ep_answer.specs.declared.answer.Stop.{Stop}
 use Rattle.ep_answer.specs.declared.answer.Answer.{Answer}
-use Rattle.ep_answer.specs.declared.answer.Answer.TheVariants.{Misused}
-use Rattle.ep_answer.specs.declared.cause.Cause.TheVariants as cause
 use Rattle.ep_answer.specs.declared.status.Status.{Status}
-use Rattle.ep_answer.specs.declared.status.Status.TheVariants.{ReadFault}
-use Rattle.ep_answer.specs.Answer.{answer_status, answer_text}
 use Rattle.ep_cli.specs.Commands.{CommandWork, LacksGuide, Misuses, Names, Work}
 use Rattle.ep_reading.specs.Run.{IsAnswerOf}
 use Rattle.ep_cli.specs.Run.{IsAnswer, NamesFile}
-use Rattle.ep_reading.proofs.Told.{usage_no_fetch}
 use Rattle.ep_reading.proofs.Lift.{IsAnswerOf-held, all_held}
 
 -- the words of a command are misused exactly where it asks for a guide that is not there
@@ -33,20 +28,6 @@ IsAnswer-command words guides command old new status text are only h =
     IsAnswerOf-held (λ files. CommandWork files words guides command) (λ files. Work files words guides) (Names words command) (NamesFile words) (LacksGuide guides command) (Misuses words guides) old new status text
     (command_misuse words guides command are only)
     (all_held old.held (λ files o w. inr (command, are, w))) (λ s name n. (command, are, n)) h
-
-pub misused_is_answer : (words : List (List ℕ)) (guides : ℕ) (library : LibraryState) → ((command : Command) → IsCommand words command → ⊥)
-    → IsAnswer words guides library library (answer_status Misused) (answer_text Misused)
-misused_is_answer words guides library none = record {
-  possible = tt;
-  usage = (λ e. inl none, λ x. refl);
-  served = λ n. all_held library.held (λ files. inl (none, refl));
-  fault = λ e. absurd (no_fault e);
-  missing = λ s e. absurd (usage_no_fetch s cause.NoSuchFile e);
-  too_long = λ s f e. absurd (usage_no_fetch s cause.TooLong e);
-}
-  where
-    no_fault : answer_status Misused ≡ ReadFault → ⊥
-    no_fault e = cc
 
 -- the answer that a stop tells
 pub if_told : {E : Type 0} (P : Answer → Type 0) (r : Result Answer E) (stop : Stop) → IfOk r (λ answer. stop ≡ Told answer) → ((answer : Answer) → stop ≡ Told answer → P answer) → IfOk r P

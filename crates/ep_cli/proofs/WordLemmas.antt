@@ -1,65 +1,16 @@
 -- The words of commands: their files, and the bounds that they give.
-use Rattle.std.proofs.Common.{◌≡◌, ℕ, ◌<◌, ◌≤◌, Bool, List, [], ◌∷◌, length, Option, Some, None, unwrap_or, IfSome, ap, subst, sym, arith}
+use Rattle.std.proofs.Common.{ℕ, ◌≤◌, Bool, List, [], ◌∷◌, Option, Some, None, unwrap_or, IfSome, subst, sym, arith}
 use Rattle.ep_search.specs.Limits.{IsBounds}
 use Rattle.ep_words.specs.Options.{AreOptions, no_options, and_option, IsWithin, plan_of}
 use Rattle.ep_words.specs.Options as opt
 use Rattle.ep_words.specs.Words.{IsCommand}
 use Rattle.ep_words.specs.declared.command.Bounds.{Bounds}
 use Rattle.ep_words.specs.declared.command.Command.{Command}
-use Rattle.ep_words.specs.declared.command.Command.TheVariants.{Plan, Validate, Eval, State, Contract, Same, Check, Trial}
+use Rattle.ep_words.specs.declared.command.Command.TheVariants.{Plan}
 use Rattle.ep_words.specs.declared.options.Options.{Options}
 use Rattle.ep_words.specs.declared.options.PlanOption.{PlanOption}
 use Rattle.ep_words.specs.declared.options.PlanOption.TheVariants.{Depth, States, Worlds, Guide, First}
 use Rattle.ep_planning.specs.Planning.{search_bounds}
-
--- ---- files
-
-pub plan_has_file : (words : List (List ℕ)) (b : Bounds) (guide : ℕ) (first : Bool) → IsCommand words (Plan b guide first) → 1 < length words
-plan_has_file [] b guide first h = absurd h
-plan_has_file (verb ∷ rest) b guide first h = let e : length rest ≡ length (h.1.file ∷ h.1.options) = ap length h.1.words_are in omega (arith, e)
-
-pub check_has_file : (words : List (List ℕ)) → IsCommand words Check → 1 < length words
-check_has_file [] h = absurd h
-check_has_file (verb ∷ []) h = absurd h.1
-check_has_file (verb ∷ file ∷ rest) h = omega arith
-
-pub validate_has_plan : (words : List (List ℕ)) → IsCommand words Validate → 2 < length words
-validate_has_plan [] h = absurd h
-validate_has_plan (verb ∷ []) h = absurd h.1
-validate_has_plan (verb ∷ file ∷ []) h = absurd h.1
-validate_has_plan (verb ∷ file ∷ plan ∷ rest) h = omega arith
-
-pub state_has_plan : (words : List (List ℕ)) → IsCommand words State → 2 < length words
-state_has_plan [] h = absurd h
-state_has_plan (verb ∷ []) h = absurd h.1
-state_has_plan (verb ∷ file ∷ []) h = absurd h.1
-state_has_plan (verb ∷ file ∷ plan ∷ rest) h = omega arith
-
-pub contract_has_plan : (words : List (List ℕ)) → IsCommand words Contract → 2 < length words
-contract_has_plan [] h = absurd h
-contract_has_plan (verb ∷ []) h = absurd h.1
-contract_has_plan (verb ∷ file ∷ []) h = absurd h.1
-contract_has_plan (verb ∷ file ∷ plan ∷ rest) h = omega arith
-
-pub eval_has_formula : (words : List (List ℕ)) → IsCommand words Eval → 3 < length words
-eval_has_formula [] h = absurd h
-eval_has_formula (verb ∷ []) h = absurd h.1
-eval_has_formula (verb ∷ file ∷ []) h = absurd h.1
-eval_has_formula (verb ∷ file ∷ plan ∷ []) h = absurd h.1
-eval_has_formula (verb ∷ file ∷ plan ∷ formula ∷ rest) h = omega arith
-
-pub same_has_plans : (words : List (List ℕ)) → IsCommand words Same → 3 < length words
-same_has_plans [] h = absurd h
-same_has_plans (verb ∷ []) h = absurd h.1
-same_has_plans (verb ∷ file ∷ []) h = absurd h.1
-same_has_plans (verb ∷ file ∷ one ∷ []) h = absurd h.1
-same_has_plans (verb ∷ file ∷ one ∷ two ∷ rest) h = omega arith
-
-pub trial_is_small : (words : List (List ℕ)) (n : ℕ) → IsCommand words (Trial n) → n ≤ 8
-trial_is_small [] n h = absurd h
-trial_is_small (verb ∷ rest) n h = h.1.2
-
--- ---- bounds
 
 -- the values that are given are within their limits
 record AreWithin (os : Options) : Type 0 where

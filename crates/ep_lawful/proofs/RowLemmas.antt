@@ -33,6 +33,5 @@ or-false false = refl
 pub number-push : (xs : List ℕ) (x i : ℕ) → has_number (xs ++ x ∷ []) i ≡ (has_number xs i || (x == i))
 number-push xs x i = list_any-append (λ y. y == i) xs (x ∷ []) ∙ ap (λ b. has_number xs i || b) (or-false (x == i))
 
-
 pub marked_all : (n : ℕ) (xs : List ℕ) (row : List Bool) → IsMarked n xs row → row ≡ table (has_number xs) n
 marked_all n xs row h = row_is_table (has_number xs) n row h.long h.each

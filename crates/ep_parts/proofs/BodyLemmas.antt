@@ -1,5 +1,5 @@
 -- What a schema and an initial state that were read and have no fault are made of.
-use Rattle.std.proofs.Common.{◌≡◌, ◌≢◌, ℕ, zero, suc, ◌+◌, ◌<◌, ◌≤◌, Bool, true, false, ◌||◌, nat_eq, None, List, [], ◌∷◌, ◌++◌, length, map, get_or, All, ap, sym, subst, arith, append_assoc, append-nil}
+use Rattle.std.proofs.Common.{◌≡◌, ◌≢◌, ℕ, zero, suc, ◌+◌, ◌<◌, ◌≤◌, Bool, true, false, ◌||◌, nat_eq, None, List, [], ◌∷◌, ◌++◌, length, map, get_or, All, sym, subst, arith, append_assoc, append-nil}
 use Rattle.std.specs.List.{flat_map}
 use Rattle.std.specs.Cmp.Lexicographic.{bytes_decides}
 use Rattle.std.proofs.lemmas.List.{length-map, length-append}
@@ -7,7 +7,6 @@ use Rattle.std.proofs.lemmas.List.Elements.{All-nil, All-cons, All-head, All-tai
 use Rattle.std.proofs.lemmas.List.Quantifiers.{all_pairs_push}
 use Rattle.ep_binding.specs.Bindings.{IsApart}
 use Rattle.ep_binding.proofs.ApartLemmas.{pairs-nil}
-use Rattle.ep_tree.specs.declared.terminal.Terminal.{Terminal}
 use Rattle.ep_tree.specs.declared.terminal.Terminal.TheVariants as the
 use Rattle.ep_tree.specs.declared.tree.Name.{Name}
 use Rattle.ep_tree.specs.declared.tree.PairTree.{PairTree}
@@ -28,7 +27,7 @@ use Rattle.ep_tree.specs.Formed.{Each, OneOrMore, IsFormedName, IsFormedFormula,
 use Rattle.ep_types.specs.Faults.{first_fault, first_row, table}
 use Rattle.ep_types.specs.declared.fault.TypeFault.TheVariants.{TooManyParameters, Duplicate}
 use Rattle.ep_types.specs.Names.{Text, is_text, is_among, names_of}
-use Rattle.ep_types.specs.Places.{Scope, Uses, both, at, closed, with_param, with_params, NewName, NewParam, UsedName}
+use Rattle.ep_types.specs.Places.{Scope, both, at, closed, with_param, with_params, NewName, NewParam, UsedName}
 use Rattle.ep_types.specs.Uses as uses
 use Rattle.ep_types.specs.Tasks as tasks
 use Rattle.ep_types.specs.declared.scope.Declared.{Declared}

@@ -1,5 +1,5 @@
 -- The printed names of ground actions differ.
-use Rattle.std.proofs.Common.{◌≡◌, ◌≢◌, ℕ, ◌<◌, Bool, true, false, cond, List, [], ◌∷◌, length, map, take, get_or, All, ap, sym, ◌∙◌, subst, arith}
+use Rattle.std.proofs.Common.{◌≡◌, ◌≢◌, ℕ, ◌<◌, Bool, true, false, cond, List, [], ◌∷◌, length, map, take, get_or, All, sym, ◌∙◌, subst, arith}
 use Rattle.std.specs.Prelude.{AllPairs}
 use Rattle.std.specs.List.{flat_map}
 use Rattle.std.proofs.lemmas.List.{length-map, length-take, get_or-take, get_or-map}
@@ -7,7 +7,7 @@ use Rattle.std.proofs.lemmas.List.Elements.{All-nil, All-cons, All-head, All-tai
 use Rattle.ep_binding.specs.Bindings.{bindings, distinct_bindings, IsApart}
 use Rattle.ep_binding.proofs.ApartLemmas.{pairs-nil, pairs-head, pairs-tail, pairs-append}
 use Rattle.ep_binding.proofs.LawsLemmas.{apart-bindings, apart-distinct}
-use Rattle.ep_name.specs.Names.{printed, IsPlain}
+use Rattle.ep_name.specs.Names.{IsPlain}
 use Rattle.ep_name.proofs.LawsLemmas.{printed-tells, printed-apart}
 use Rattle.ep_tree.specs.declared.tree.ParamTree.{ParamTree}
 use Rattle.ep_tree.specs.declared.tree.SchemaTree.{SchemaTree}

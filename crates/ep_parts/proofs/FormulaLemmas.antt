@@ -1,5 +1,5 @@
 -- What a formula that was read and has no fault is made of.
-use Rattle.std.proofs.Common.{◌≡◌, ℕ, suc, ◌+◌, ◌≤◌, Bool, true, false, ◌&&◌, nat_le, IsTrue, None, List, [], ◌∷◌, ◌++◌, length, map, refl, ap, sym, ◌∙◌, subst, arith}
+use Rattle.std.proofs.Common.{◌≡◌, ℕ, suc, ◌+◌, ◌≤◌, Bool, true, false, ◌&&◌, nat_le, IsTrue, None, List, [], ◌∷◌, ◌++◌, length, map, refl, sym, ◌∙◌, subst, arith}
 use Rattle.std.specs.List.{list_all}
 use Rattle.std.proofs.lemmas.Bool.Decides.{nat_tests}
 use Rattle.std.proofs.lemmas.List.{length-map}
@@ -15,7 +15,7 @@ use Rattle.ep_tree.specs.Marks.{Mark, IsShallow, fixed}
 use Rattle.ep_tree.specs.Spelling.{production, formula_at, formula, parts_at, between, behind, group, params}
 use Rattle.ep_tree.specs.Formed.{formed_layer, formed_formula, formed_params, formed_name, formed_group, is_true}
 use Rattle.ep_types.specs.Faults.{first_fault}
-use Rattle.ep_types.specs.Places.{Scope, Uses, both, at, each, with_params, Group, Knowledge}
+use Rattle.ep_types.specs.Places.{Scope, Uses, at, each, with_params, Knowledge}
 use Rattle.ep_types.specs.Uses as uses
 use Rattle.ep_universe.specs.Sizes.{nesting, nesting_layer, is_whole, whole_layer, has_member}
 use Rattle.ep_universe.proofs.GroundLemmas.{left, right}

@@ -8,7 +8,7 @@ use Rattle.std.proofs.lemmas.List.Sums.{position_or_len_is}
 use Rattle.std.proofs.lemmas.List.Quantifiers.{position-Some}
 use Rattle.ep_theory.specs.Rising.{IsIn}
 use Rattle.ep_theory.specs.FourActions.{is_member}
-use Rattle.ep_theory.specs.Numbers.{numbers_where, pairs_within, table}
+use Rattle.ep_theory.specs.Numbers.{numbers_where, pairs_within}
 use Rattle.ep_theory.proofs.Lists.{from_map, IsIn-map}
 use Rattle.ep_theory.proofs.Filters.{IsIn-at}
 use Rattle.ep_theory.proofs.Counting.{last_or_before}

@@ -1,5 +1,5 @@
 -- Assignments to one atom twice, as the builder of actions finds them.
-use Rattle.std.proofs.Common.{◌≡◌, ◌≢◌, ℕ, zero, suc, ◌<◌, Bool, true, false, not, ◌==◌, None, is_some, option_map, List, [], ◌∷◌, length, map, take, get_or, slice_get, refl, ap, sym, ◌∙◌, subst, arith, IsTrue, ⊎_elim}
+use Rattle.std.proofs.Common.{◌≡◌, ◌≢◌, ℕ, zero, suc, ◌<◌, Bool, true, false, ◌==◌, None, is_some, option_map, List, [], ◌∷◌, length, map, take, get_or, slice_get, refl, ap, sym, ◌∙◌, subst, arith, IsTrue, ⊎_elim}
 use Rattle.std.specs.List.{AllByRecursion}
 use Rattle.std.proofs.lemmas.Bool.{ne_eqb, true≢false}
 use Rattle.std.proofs.lemmas.List.{length-map, length-take, get_or-map, get_or-take}

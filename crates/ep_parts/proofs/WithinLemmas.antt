@@ -1,5 +1,5 @@
 -- A task that is read, has no type fault and is within the limits can be built.
-use Rattle.std.proofs.Common.{◌≡◌, ℕ, ◌+◌, ◌<◌, ◌≤◌, Bool, true, false, cond, ◌&&◌, nat_eq, nat_lt, List, [], ◌∷◌, ◌++◌, Option, Some, None, Result, Ok, Err, IfOk, length, map, All, refl, ap, sym, subst, arith}
+use Rattle.std.proofs.Common.{◌≡◌, ℕ, ◌+◌, ◌<◌, ◌≤◌, Bool, true, false, cond, ◌&&◌, nat_eq, nat_lt, List, [], ◌∷◌, ◌++◌, Option, Some, None, Result, Ok, Err, IfOk, length, map, All, refl, sym, subst, arith}
 use Rattle.std.specs.List.{flat_map}
 use Rattle.std.proofs.lemmas.Bool.Decides.{nat_tests}
 use Rattle.std.proofs.lemmas.List.Elements.{All-nil, All-cons, All-head, All-tail, All-append}
@@ -19,13 +19,12 @@ use Rattle.ep_tree.specs.declared.tree.SchemaTree.{SchemaTree}
 use Rattle.ep_tree.specs.declared.tree.TaskTree.{TaskTree}
 use Rattle.ep_types.specs.Faults.{first_fault}
 use Rattle.ep_types.specs.Names.{Text}
-use Rattle.ep_types.specs.Places.{Scope, closed, objective, with_params, NewName, both, each, at}
+use Rattle.ep_types.specs.Places.{Scope, closed, objective, with_params, NewName, both, at}
 use Rattle.ep_types.specs.Tasks.{HasNoFault, declarations, start, declaration_uses, rest_uses, init_uses, given_uses, law_uses, sees_uses, schema_uses, inner_uses, body_uses, sets_uses, effect_uses, event_uses, event_names, ends_uses}
 use Rattle.ep_types.specs.Uses.{atom_uses, group_uses, param_uses, formula_uses}
 use Rattle.ep_types.specs.declared.scope.Declared.{Declared}
 use Rattle.ep_universe.specs.Atoms.{atoms_of}
 use Rattle.ep_universe.specs.Counts.{ground_count}
-use Rattle.ep_universe.specs.Limits.{IsWithin}
 use Rattle.ep_universe.specs.Objects.{agents_of}
 use Rattle.ep_universe.specs.Sizes.{IsBuildable, AreBuildable}
 use Rattle.ep_universe.proofs.LawLemmas.{build}

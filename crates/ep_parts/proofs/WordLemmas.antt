@@ -1,13 +1,11 @@
 -- What the names of a task that was read and has no fault are: words, and those of a list differ.
-use Rattle.std.proofs.Common.{◌≡◌, ◌≢◌, ℕ, ◌+◌, ◌≤◌, Bool, true, false, ◌&&◌, not, IsTrue, None, unwrap_or, List, [], ◌∷◌, ◌++◌, length, map, nat_le, All, refl, ap, sym, ◌∙◌, subst, arith, append_assoc, append-nil}
+use Rattle.std.proofs.Common.{◌≡◌, ◌≢◌, ℕ, ◌≤◌, Bool, true, false, ◌&&◌, not, IsTrue, None, unwrap_or, List, [], ◌∷◌, ◌++◌, length, map, nat_le, All, refl, ap, sym, ◌∙◌, subst, arith, append_assoc, append-nil}
 use Rattle.std.specs.List.{flat_map, list_all}
 use Rattle.std.proofs.lemmas.Bool.{true≢false}
 use Rattle.std.proofs.lemmas.List.{length-map}
 use Rattle.std.proofs.lemmas.List.Elements.{All-nil, All-cons, All-append}
 use Rattle.ep_binding.specs.Bindings.{IsApart}
 use Rattle.ep_lex.specs.Pieces.{is_letter, is_word_byte}
-use Rattle.ep_lex.specs.declared.token.TokenKind.TheVariants as kind
-use Rattle.ep_lex.specs.Pieces as piece
 use Rattle.ep_name.specs.Names.{IsPlainByte, IsPlain}
 use Rattle.ep_tree.specs.declared.terminal.Terminal.TheVariants as the
 use Rattle.ep_tree.specs.declared.tree.Name.{Name}

@@ -1,12 +1,11 @@
 -- The laws of the readers of actions.
-use Rattle.std.proofs.Common.{◌≡◌, ℕ, ◌+◌, Bool, true, false, List, [], ◌∷◌, ◌++◌, map, refl, sym, ap, ◌∙◌, subst, arith, append_assoc}
+use Rattle.std.proofs.Common.{◌≡◌, ℕ, Bool, true, false, List, [], ◌∷◌, ◌++◌, map, refl, sym, ap, ◌∙◌, subst, arith, append_assoc}
 use Rattle.std.specs.List.{flat_map}
 use Rattle.std.proofs.lemmas.Bool.{false≢true}
 use Rattle.ep_tree.specs.declared.terminal.Terminal.{Terminal}
 use Rattle.ep_tree.specs.declared.terminal.Terminal.TheVariants as the
 use Rattle.ep_tree.specs.declared.tree.Name.{Name}
 use Rattle.ep_tree.specs.declared.tree.GroupTree.{GroupTree}
-use Rattle.ep_tree.specs.declared.tree.GroupTree.TheVariants as group_tree
 use Rattle.ep_tree.specs.declared.tree.LinkTree.{LinkTree}
 use Rattle.ep_tree.specs.declared.tree.SetTree.{SetTree}
 use Rattle.ep_tree.specs.declared.tree.EventTree.{EventTree}
@@ -18,8 +17,8 @@ use Rattle.ep_tree.specs.declared.tree.FormulaTree.TheVariants as tree
 use Rattle.ep_tree.specs.Bare.{bare_param, bare_set, bare_event, bare_body, bare_schema}
 use Rattle.ep_tree.specs.Formed.{IsFormedSet, IsFormedEvent, IsFormedBody, IsFormedSignature, IsFormedSchema}
 use Rattle.ep_tree.specs.Grammar.{Grammar}
-use Rattle.ep_tree.specs.Marks.{fixed, named, texts}
-use Rattle.ep_syntax.specs.Reading.{Token, Read, seq, made, begins, heads, name, each, some_each, within, braced}
+use Rattle.ep_tree.specs.Marks.{fixed, texts}
+use Rattle.ep_syntax.specs.Reading.{Token, seq, begins, heads, each}
 use Rattle.ep_tree.specs.Terminals.{is}
 use Rattle.ep_tree.specs.Spelling as spell
 use Rattle.ep_tree.specs.Terminals.{text_of}
@@ -27,8 +26,8 @@ use Rattle.ep_syntax.proofs.MarkLists.{Agree}
 use Rattle.ep_syntax.proofs.Laws.{Follow, IsSame, both, Made}
 use Rattle.ep_syntax.proofs.ListLaws.{Agree-heads, each_of, each_part, some_each_of, some_each_part}
 use Rattle.ep_syntax.proofs.Readers.{Reads, Part, Any, Next, pair, then, made_by, made_all, either, less, next_lacks, plain, plain_reads, plain_part, name_part, some_name}
-use Rattle.ep_syntax.specs.FormulaReading.{group, params}
-use Rattle.ep_syntax.specs.TaskReading.{statement, set, sets, event, private_of, private_message, sense_of, sensing, assign_of, assignment, events_of, events, body, distinct, Signature, signature, schema, designated, link}
+use Rattle.ep_syntax.specs.FormulaReading.{params}
+use Rattle.ep_syntax.specs.TaskReading.{set, sets, event, private_of, private_message, sense_of, sensing, assign_of, assignment, events_of, events, body, distinct, Signature, signature, schema}
 use Rattle.ep_syntax.proofs.AtomLaws.{within_of, within_part, atom_part, some_atom, groups_one, group_part, params_of, params_part, made-id}
 use Rattle.ep_syntax.proofs.DeclarationLaws.{braced_of, braced_part, named_entries_part}
 use Rattle.ep_syntax.proofs.InitialLaws.{outer_one, outer_part, before, statement_part, links_of, links_part, designated_of, designated_part}

@@ -1,5 +1,5 @@
 -- The laws of the readers of atoms, groups and parameters.
-use Rattle.std.proofs.Common.{◌≡◌, ℕ, ◌+◌, ◌≤◌, Bool, true, false, ◌&&◌, IfSome, List, [], ◌∷◌, ◌++◌, Option, Some, None, Ok, Err, refl, sym, ap, ◌∙◌, subst, arith}
+use Rattle.std.proofs.Common.{◌≡◌, ℕ, ◌≤◌, Bool, true, false, ◌&&◌, IfSome, List, [], ◌∷◌, ◌++◌, Option, None, Ok, Err, refl, sym, ◌∙◌, subst, arith}
 use Rattle.std.specs.List.{list_all}
 use Rattle.std.proofs.lemmas.Bool.{false≢true}
 use Rattle.ep_tree.specs.declared.terminal.Terminal.{Terminal}
@@ -9,18 +9,18 @@ use Rattle.ep_tree.specs.declared.tree.AtomTree.{AtomTree}
 use Rattle.ep_tree.specs.declared.tree.GroupTree.{GroupTree}
 use Rattle.ep_tree.specs.declared.tree.GroupTree.TheVariants as group_tree
 use Rattle.ep_tree.specs.declared.tree.ParamTree.{ParamTree}
-use Rattle.ep_tree.specs.Bare.{bare_name, bare_names, bare_atom, bare_group, bare_param}
+use Rattle.ep_tree.specs.Bare.{bare_names, bare_atom, bare_group, bare_param}
 use Rattle.ep_tree.specs.Formed.{Each, OneOrMore, formed_name, IsFormedName, IsFormedAtom, IsFormedGroup, IsFormedParam}
 use Rattle.ep_syntax.specs.FormulaReading.{arguments, atom, group, members_of, param, params}
 use Rattle.ep_tree.specs.Grammar.{Grammar}
 use Rattle.ep_tree.specs.Marks.{fixed, texts}
-use Rattle.ep_syntax.specs.Reading.{Token, Read, Reader, made, begins, heads, name, listed, any_listed, within}
+use Rattle.ep_syntax.specs.Reading.{Token, Read, Reader, made, begins, name, listed, any_listed, within}
 use Rattle.ep_tree.specs.Terminals.{is}
 use Rattle.ep_tree.specs.Spelling as spell
 use Rattle.ep_tree.specs.Terminals.{text_of, is_name}
 use Rattle.ep_syntax.proofs.MarkLists.{Agree}
 use Rattle.ep_syntax.proofs.Laws.{Follow, IsSame, both, Made}
-use Rattle.ep_syntax.proofs.Readers.{Reads, Part, Any, Lacks, Next, pair, then, made_by, made_all, either, less, less_part, is-text_of, next_lacks, plain, plain_reads, plain_part, placed, placed_reads, title, title_part, names_one, name_part, some_name}
+use Rattle.ep_syntax.proofs.Readers.{Reads, Part, Any, Lacks, Next, pair, then, made_by, made_all, either, less_part, is-text_of, next_lacks, plain, plain_reads, plain_part, placed, placed_reads, title_part, names_one, name_part, some_name}
 use Rattle.ep_syntax.proofs.ListLaws.{Agree-heads, StartsWith, listed_of, listed_part, any_listed_of, any_listed_part}
 use Rattle.ep_syntax.proofs.Sources.{both_true}
 

@@ -1,5 +1,5 @@
 -- The laws of the readers of types, objects and fluents.
-use Rattle.std.proofs.Common.{◌≡◌, ℕ, suc, ◌+◌, true, false, cond, IfSome, List, [], ◌∷◌, ◌++◌, length, Option, Some, None, Ok, refl, sym, ap, ◌∙◌, subst, arith, append_assoc}
+use Rattle.std.proofs.Common.{◌≡◌, ℕ, suc, true, false, cond, IfSome, List, [], ◌∷◌, ◌++◌, length, Option, Some, None, Ok, refl, sym, ap, ◌∙◌, subst, arith, append_assoc}
 use Rattle.std.proofs.lemmas.Bool.{false≢true}
 use Rattle.ep_tree.specs.declared.terminal.Terminal.{Terminal}
 use Rattle.ep_tree.specs.declared.terminal.Terminal.TheVariants as the
@@ -11,15 +11,14 @@ use Rattle.ep_tree.specs.Bare.{bare_type, bare_types, bare_object, bare_fluent}
 use Rattle.ep_tree.specs.Formed.{Each, OneOrMore, IsFormedName, IsFormedType, IsFormedObject, IsFormedFluent}
 use Rattle.ep_tree.specs.Grammar.{Grammar}
 use Rattle.ep_tree.specs.Marks.{Mark, fixed, named, texts}
-use Rattle.ep_syntax.specs.Reading.{Token, Read, Reader, made, begins, heads, key, name, each, behind_key, within, braced}
+use Rattle.ep_syntax.specs.Reading.{Token, Reader, made, begins, heads, each, behind_key, braced}
 use Rattle.ep_tree.specs.Terminals.{is}
 use Rattle.ep_tree.specs.Spelling as spell
-use Rattle.ep_tree.specs.Terminals.{text_of, is_name}
+use Rattle.ep_tree.specs.Terminals.{is_name}
 use Rattle.ep_syntax.proofs.MarkLists.{Agree}
 use Rattle.ep_syntax.proofs.Laws.{Follow, IsSame, Made}
 use Rattle.ep_syntax.proofs.ListLaws.{Agree-heads, StartsWith, each_of, each_part, behind_of, keyed_part}
-use Rattle.ep_syntax.proofs.Readers.{Reads, Part, Any, Lacks, Next, pair, then, made_by, made_all, either, less, is-text_of, next_lacks, plain, plain_part, name_part, some_name}
-use Rattle.ep_syntax.specs.FormulaReading.{arguments}
+use Rattle.ep_syntax.proofs.Readers.{Reads, Part, Any, Lacks, Next, pair, then, made_by, made_all, either, less, is-text_of, next_lacks, plain_part, name_part, some_name}
 use Rattle.ep_syntax.specs.TaskReading.{type_entry, types, object_entry, objects, fluent_entry, fluents}
 use Rattle.ep_syntax.proofs.AtomLaws.{within_of, within_part, names_part, arguments_part}
 

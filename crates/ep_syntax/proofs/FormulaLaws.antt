@@ -4,17 +4,14 @@ use Rattle.std.specs.Prelude.{nat_le, ◌==◌}
 use Rattle.std.proofs.lemmas.Bool.{false≢true, le-leb}
 use Rattle.ep_tree.specs.declared.terminal.Terminal.{Terminal}
 use Rattle.ep_tree.specs.declared.terminal.Terminal.TheVariants as the
-use Rattle.ep_tree.specs.declared.tree.GroupTree.{GroupTree}
-use Rattle.ep_tree.specs.declared.tree.GroupTree.TheVariants as group_tree
 use Rattle.ep_tree.specs.declared.tree.ParamTree.{ParamTree}
 use Rattle.ep_tree.specs.declared.tree.FormulaTree.{FormulaTree, roll-FormulaTree}
 use Rattle.ep_tree.specs.declared.tree.FormulaTree.TheOpen as layer
 use Rattle.ep_tree.specs.declared.tree.FormulaTree.TheVariants as tree
 use Rattle.ep_tree.specs.Formed.{OneOrMore, formed_formula, formed_param, formed_params, IsFormedFormula, IsFormedParam}
-use Rattle.ep_syntax.specs.FormulaReading.{opened, not_of, knows_of, common_of, forall_of, exists_of, starter_of, starter, by_terminal, by_token, too_deep, formula, atom, group, params}
+use Rattle.ep_syntax.specs.FormulaReading.{not_of, knows_of, common_of, forall_of, exists_of, starter_of, by_terminal, by_token, formula, atom}
 use Rattle.ep_tree.specs.Marks.{Mark, fixed, opening}
-use Rattle.ep_syntax.specs.Reading.{Token, Read, Reader, made, name, whole}
-use Rattle.ep_tree.specs.Terminals.{is}
+use Rattle.ep_syntax.specs.Reading.{Token, Reader, made, whole}
 use Rattle.ep_tree.specs.Spelling.{formula_at}
 use Rattle.ep_tree.specs.Spelling as spell
 use Rattle.ep_tree.specs.Terminals.{is_name}

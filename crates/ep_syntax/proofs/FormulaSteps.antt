@@ -5,8 +5,7 @@ use Rattle.ep_syntax.specs.declared.error.SyntaxError.{SyntaxError}
 use Rattle.ep_syntax.specs.declared.error.SyntaxError.TheVariants as error
 use Rattle.ep_syntax.specs.FormulaReading.{formula, by_token, too_deep, starts_formula}
 use Rattle.ep_syntax.specs.Gives.{Place, Gives}
-use Rattle.ep_syntax.specs.Reading.{Token, Syntax, TooDeep, Read, Reader}
-use Rattle.ep_tree.specs.Terminals.{is}
+use Rattle.ep_syntax.specs.Reading.{Token, Syntax, TooDeep, Reader}
 
 pub formula-suc : (depth n : ℕ) (ts : List Token) → 0 < depth → formula depth n ts ≡ by_token (depth - 1 == 0) (formula (depth - 1)) n ts
 unfolding formula

@@ -1,5 +1,5 @@
 -- The laws of the readers of the initial state.
-use Rattle.std.proofs.Common.{◌≡◌, ℕ, ◌+◌, true, false, IfSome, List, [], ◌∷◌, ◌++◌, map, Option, Some, None, refl, sym, ap, ◌∙◌, append_assoc}
+use Rattle.std.proofs.Common.{◌≡◌, ℕ, true, false, IfSome, List, [], ◌∷◌, ◌++◌, Option, None, refl, sym, ◌∙◌, append_assoc}
 use Rattle.std.specs.List.{flat_map}
 use Rattle.std.proofs.lemmas.Bool.{false≢true}
 use Rattle.ep_tree.specs.declared.terminal.Terminal.{Terminal}
@@ -21,15 +21,14 @@ use Rattle.ep_tree.specs.Bare.{bare_pair, bare_pairs, bare_link, bare_world, bar
 use Rattle.ep_tree.specs.Formed.{Each, IsFormedAtom, IsFormedPair, IsFormedPairs, IsFormedLink, IsFormedWorld, IsFormedSees, IsFormedInit}
 use Rattle.ep_tree.specs.Grammar.{Grammar}
 use Rattle.ep_tree.specs.Marks.{texts}
-use Rattle.ep_syntax.specs.Reading.{Token, Read, made, begins, heads, key, name, each, some_each, listed, any_listed, within, braced}
+use Rattle.ep_syntax.specs.Reading.{Token, begins, each, any_listed, braced}
 use Rattle.ep_tree.specs.Terminals.{is}
 use Rattle.ep_tree.specs.Spelling as spell
 use Rattle.ep_tree.specs.Terminals.{text_of, is_name}
 use Rattle.ep_syntax.proofs.MarkLists.{Agree}
 use Rattle.ep_syntax.proofs.Laws.{Follow, both, Made}
-use Rattle.ep_syntax.proofs.ListLaws.{Agree-heads, each_of, each_part, some_each_of, some_each_part, behind_of, keyed_part, listed_of, listed_part, any_listed_of, any_listed_part}
+use Rattle.ep_syntax.proofs.ListLaws.{Agree-heads, each_of, each_part, some_each_of, some_each_part, behind_of, keyed_part, listed_of, any_listed_of, any_listed_part}
 use Rattle.ep_syntax.proofs.Readers.{Reads, Part, Any, Next, pair, then, made_by, made_all, either, fewer, next_lacks, plain, plain_reads, plain_part, names_one, name_part, some_name}
-use Rattle.ep_syntax.specs.FormulaReading.{atom, group}
 use Rattle.ep_syntax.specs.TaskReading.{outer_formula, statement, atoms, pairs, link, designated, world, explicit_of, explicit, facts, sees, lawful_of, lawful, init_items, init}
 use Rattle.ep_syntax.specs.TaskReading as reading
 use Rattle.ep_syntax.proofs.AtomLaws.{NotOpen, within_of, within_part, names_part, atoms_one, any_atoms_part, group_part}

@@ -1,12 +1,10 @@
 -- A formula's layer: its first token, and what stands behind it.
-use Rattle.std.proofs.Common.{◌≡◌, ℕ, suc, ◌+◌, ◌≤◌, Bool, true, false, cond, List, [], ◌∷◌, ◌++◌, length, map, Option, Some, None, Err, refl, sym, ap, ◌∙◌, subst, arith}
+use Rattle.std.proofs.Common.{◌≡◌, ℕ, suc, ◌≤◌, Bool, true, false, cond, List, [], ◌∷◌, ◌++◌, length, map, Option, Some, None, Err, refl, sym, ap, ◌∙◌, subst, arith}
 use Rattle.std.specs.Prelude.{find}
 use Rattle.std.proofs.lemmas.Bool.{false≢true}
 use Rattle.ep_tree.specs.declared.terminal.Terminal.{Terminal}
 use Rattle.ep_tree.specs.declared.terminal.Terminal.TheVariants as the
 use Rattle.ep_tree.specs.declared.tree.AtomTree.{AtomTree}
-use Rattle.ep_tree.specs.declared.tree.GroupTree.{GroupTree}
-use Rattle.ep_tree.specs.declared.tree.GroupTree.TheVariants as group_tree
 use Rattle.ep_tree.specs.declared.tree.FormulaTree.{FormulaTree, out-FormulaTree, roll-FormulaTree, roll-out-FormulaTree}
 use Rattle.ep_tree.specs.declared.tree.FormulaTree.TheOpen.{FormulaTree-F}
 use Rattle.ep_tree.specs.declared.tree.FormulaTree.TheOpen as layer
@@ -14,18 +12,17 @@ use Rattle.ep_tree.specs.declared.tree.FormulaTree.TheVariants as tree
 use Rattle.ep_tree.specs.declared.tree.FormulaTree.TheFolds.{fold-roll-FormulaTree, map-FormulaTree}
 use Rattle.ep_tree.specs.Bare.{bare_formula}
 use Rattle.ep_tree.specs.Formed.{formed_layer, formed_formula, IsFormedFormula}
-use Rattle.ep_syntax.specs.FormulaReading.{starters, starter_of, starter, formula, group, params}
+use Rattle.ep_syntax.specs.FormulaReading.{starters, starter_of}
 use Rattle.ep_tree.specs.Grammar.{Grammar}
 use Rattle.ep_tree.specs.Marks.{Mark, fixed, named, texts}
-use Rattle.ep_syntax.specs.Reading.{Token, Syntax, Read, Reader, begins, name, front}
+use Rattle.ep_syntax.specs.Reading.{Token, Syntax}
 use Rattle.ep_tree.specs.Terminals.{is}
 use Rattle.ep_tree.specs.Spelling.{between, formula_at}
 use Rattle.ep_tree.specs.Spelling as spell
 use Rattle.ep_tree.specs.Terminals.{text_of, is_name}
-use Rattle.ep_syntax.proofs.Laws.{Follow, both}
+use Rattle.ep_syntax.proofs.Laws.{Follow}
 use Rattle.ep_syntax.proofs.MarkLists.{Agree}
 use Rattle.ep_syntax.proofs.Readers.{Reads, is-true}
-use Rattle.ep_syntax.proofs.Readers as reader
 use Rattle.ep_syntax.proofs.Sources.{both_true}
 use Rattle.ep_syntax.proofs.TreeEquations as eq
 

@@ -1,12 +1,12 @@
 -- The tokens of a layout are those that are laid out.
-use Rattle.std.proofs.Common.{◌≡◌, ℕ, Bool, true, false, cond, ◌||◌, ◌==◌, List, [], ◌∷◌, ◌++◌, refl, ap, ◌∙◌, subst}
+use Rattle.std.proofs.Common.{◌≡◌, ℕ, Bool, true, false, ◌||◌, ◌==◌, List, [], ◌∷◌, ◌++◌, refl, ap, ◌∙◌, subst}
 use Rattle.std.specs.Prelude.{IsTrue, if◌then◌else◌}
 use Rattle.ep_lex.specs.declared.token.Token.{Token as Lexeme}
 use Rattle.ep_lex.specs.declared.token.TokenKind.{TokenKind}
 use Rattle.ep_lex.specs.declared.token.TokenKind.TheVariants.{Word, Number, Mark}
 use Rattle.ep_lex.specs.declared.token.PieceKind.TheVariants.{Blank, Spelling}
 use Rattle.ep_lex.specs.Pieces.{is_letter, is_digit, is_piece, Split}
-use Rattle.ep_lex.specs.Tokens.{AreTokens, spelling, spellings, tokens_behind}
+use Rattle.ep_lex.specs.Tokens.{AreTokens, spellings, tokens_behind}
 use Rattle.ep_lex.proofs.TokenLaws.{texts_of, spellings-are}
 use Rattle.ep_lex.proofs.LaidOut.{Laid, laid, laid_pieces, AreLaid, laid_split}
 use Rattle.ep_syntax.specs.Layout.{starts_line, is_semicolon, gap, laid_behind, laid_out}

@@ -1,19 +1,19 @@
 -- The laws of the readers of lists.
-use Rattle.std.proofs.Common.{◌≡◌, ℕ, zero, suc, ◌+◌, ◌≤◌, Bool, true, false, List, [], ◌∷◌, ◌++◌, length, map, Ok, refl, sym, ap, ◌∙◌, subst, arith, length-append}
+use Rattle.std.proofs.Common.{◌≡◌, ℕ, zero, suc, ◌≤◌, Bool, true, false, List, [], ◌∷◌, ◌++◌, length, map, Ok, refl, sym, ap, ◌∙◌, subst, arith, length-append}
 use Rattle.std.specs.List.{flat_map}
 use Rattle.std.proofs.lemmas.Bool.{false≢true}
 use Rattle.ep_tree.specs.declared.terminal.Terminal.{Terminal}
 use Rattle.ep_tree.specs.Formed.{Each, OneOrMore}
 use Rattle.ep_tree.specs.Grammar.{Grammar}
 use Rattle.ep_tree.specs.Marks.{Mark, fixed, texts}
-use Rattle.ep_syntax.specs.Reading.{Token, Read, Reader, seq, made, heads, key, each_by, each, some_each, front, behind_key, listed, any_listed}
+use Rattle.ep_syntax.specs.Reading.{Token, Reader, heads, each_by, each, some_each, front, behind_key, listed, any_listed}
 use Rattle.ep_tree.specs.Terminals.{is}
 use Rattle.ep_tree.specs.Spelling.{behind, between}
 use Rattle.ep_tree.specs.Terminals.{text_of}
 use Rattle.ep_syntax.proofs.MarkLists.{Agree}
 use Rattle.ep_tree.proofs.MarkTexts.{length-texts}
 use Rattle.ep_syntax.proofs.Laws.{Follow, IsSame, both, both_then, seq_outcome, Makes, Made, got}
-use Rattle.ep_syntax.proofs.Readers.{Reads, Part, Lacks, pair, then, made_by, made_all, either, is-text_of, plain, plain_reads}
+use Rattle.ep_syntax.proofs.Readers.{Reads, Part, Lacks, pair, then, made_by, made_all, either, is-text_of, plain_reads}
 
 pub Agree-heads : (test : Token → Bool) (xs ys : List Token) → Agree 1 xs ys → heads test xs ≡ heads test ys
 Agree-heads test [] [] a = refl

@@ -1,10 +1,9 @@
 -- A loop that reads a list.
-use Rattle.std.proofs.Common.{◌≡◌, ℕ, zero, suc, ◌+◌, Bool, true, false, List, [], ◌∷◌, ◌++◌, length, Ok, Err, refl, sym, ap, ◌∙◌, append_assoc, append-nil}
+use Rattle.std.proofs.Common.{◌≡◌, ℕ, zero, suc, Bool, true, false, List, [], ◌∷◌, ◌++◌, length, Ok, Err, refl, sym, ap, ◌∙◌, append_assoc, append-nil}
 use Rattle.ep_syntax.specs.declared.error.SyntaxError.{SyntaxError}
 use Rattle.ep_syntax.specs.declared.error.SyntaxError.TheVariants as error
 use Rattle.ep_syntax.specs.Gives.{Stops}
 use Rattle.ep_syntax.specs.Reading.{Token, Fault, Syntax, TooDeep, Read, Reader, seq, paired, made, heads, each_by, each, front}
-use Rattle.ep_tree.specs.Terminals.{is}
 
 -- the rest of the list, behind the items that were found, is what the reader of lists gives
 pub record Going {A : Type 0} (test : Token → Bool) (item : Reader A) (fuel : ℕ) (found : List A) (n : ℕ) (ts : List Token) (goal : Read (List A)) : Type 0 where

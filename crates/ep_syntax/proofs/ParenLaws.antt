@@ -1,5 +1,5 @@
 -- The laws of the readers of what stands in parentheses.
-use Rattle.std.proofs.Common.{◌≡◌, ℕ, suc, ◌+◌, ◌≤◌, Bool, true, false, ◌&&◌, List, [], ◌∷◌, ◌++◌, length, map, Some, refl, sym, ap, ◌∙◌, subst, arith, append_assoc, length-append}
+use Rattle.std.proofs.Common.{◌≡◌, ℕ, suc, ◌≤◌, Bool, true, false, ◌&&◌, List, [], ◌∷◌, ◌++◌, length, map, Some, refl, sym, ap, ◌∙◌, subst, arith, append_assoc, length-append}
 use Rattle.std.specs.List.{flat_map, list_all}
 use Rattle.std.specs.Prelude.{nat_le}
 use Rattle.std.proofs.lemmas.Bool.{false≢true, le-leb}
@@ -11,10 +11,10 @@ use Rattle.ep_tree.specs.declared.tree.FormulaTree.TheOpen as layer
 use Rattle.ep_tree.specs.declared.tree.FormulaTree.TheVariants as tree
 use Rattle.ep_tree.specs.Bare.{bare_formula}
 use Rattle.ep_tree.specs.Formed.{Each, OneOrMore, formed_formula, formed_parts, is_true, IsFormedFormula, IsFormedName}
-use Rattle.ep_syntax.specs.FormulaReading.{Tail, closed, anded, ored, some_behind, joined, tail, with_tail, inside_of, inside, equal_of, equality, follows, opened, starter_of}
+use Rattle.ep_syntax.specs.FormulaReading.{Tail, closed, anded, ored, some_behind, joined, tail, with_tail, inside_of, inside, equal_of, equality, follows, starter_of}
 use Rattle.ep_tree.specs.Grammar.{Grammar}
 use Rattle.ep_tree.specs.Marks.{Mark, fixed, opening, texts}
-use Rattle.ep_syntax.specs.Reading.{Token, Read, Reader, made, begins, heads, name, name_begins, each, front}
+use Rattle.ep_syntax.specs.Reading.{Token, Read, Reader, made, begins, heads, name_begins, front}
 use Rattle.ep_tree.specs.Terminals.{is}
 use Rattle.ep_tree.specs.Spelling.{behind, between, formula_at}
 use Rattle.ep_tree.specs.Spelling as spell

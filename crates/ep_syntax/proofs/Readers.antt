@@ -4,7 +4,6 @@ use Rattle.std.specs.Cmp.Lexicographic.{same_text}
 use Rattle.std.specs.Str.{bytes_eq}
 use Rattle.std.proofs.lemmas.Bool.{false≢true}
 use Rattle.ep_tree.specs.declared.terminal.Terminal.{Terminal}
-use Rattle.ep_tree.specs.declared.terminal.Terminal.TheVariants as the
 use Rattle.ep_tree.specs.declared.tree.Name.{Name}
 use Rattle.ep_tree.specs.Bare.{bare_name}
 use Rattle.ep_tree.specs.Formed.{IsFormedName}

@@ -29,7 +29,7 @@ use Rattle.ep_tree.specs.Formed.{Each, OneOrMore, IsFormedName, IsFormedAtom, Is
 use Rattle.ep_tree.specs.Marks.{Mark, fixed, named, texts}
 use Rattle.ep_tree.specs.Spelling as spell
 use Rattle.ep_syntax.proofs.LayoutTokens.{AreSpellings}
-use Rattle.ep_syntax.proofs.SpelledFormulas.{AreSpelled, spelled-texts, spelled-append, spelled_name, spelled-flat_map, spelled-between, each-some, spelled-braced, spelled-names, spelled-arguments, spelled-atom, spelled-group, spelled-param, spelled-params, spelled-formula}
+use Rattle.ep_syntax.proofs.SpelledFormulas.{AreSpelled, spelled-texts, spelled-append, spelled_name, spelled-flat_map, spelled-between, each-some, spelled-braced, spelled-names, spelled-arguments, spelled-atom, spelled-group, spelled-params, spelled-formula}
 
 ended : (ms : List Mark) → AreSpelled ms → AreSpelled (ms ++ fixed the.Semicolon ∷ [])
 ended ms s = spelled-append ms (fixed the.Semicolon ∷ []) s (refl, tt)

@@ -1,20 +1,18 @@
 -- The law of the reader of tasks.
-use Rattle.std.proofs.Common.{◌≡◌, ℕ, ◌+◌, List, [], ◌∷◌, ◌++◌, map, None, refl, ap, append_assoc}
+use Rattle.std.proofs.Common.{◌≡◌, ℕ, List, [], ◌∷◌, ◌++◌, None, refl, append_assoc}
 use Rattle.std.specs.List.{flat_map}
-use Rattle.ep_tree.specs.declared.terminal.Terminal.{Terminal}
 use Rattle.ep_tree.specs.declared.terminal.Terminal.TheVariants as the
 use Rattle.ep_tree.specs.declared.tree.TaskTree.{TaskTree}
 use Rattle.ep_tree.specs.declared.tree.InitTree.TheVariants.{Lawful}
 use Rattle.ep_tree.specs.declared.tree.FormulaTree.TheVariants as tree
 use Rattle.ep_tree.specs.Grammar.{Grammar, tasks}
 use Rattle.ep_tree.specs.Marks.{Mark, fixed, named}
-use Rattle.ep_syntax.specs.Reading.{Token, Read, made, name, each, braced, whole}
-use Rattle.ep_tree.specs.Terminals.{is}
+use Rattle.ep_syntax.specs.Reading.{Token, whole}
 use Rattle.ep_tree.specs.Spelling as spell
 use Rattle.ep_syntax.proofs.Laws.{both}
 use Rattle.ep_syntax.proofs.ListLaws.{each_of, behind_of}
 use Rattle.ep_syntax.proofs.Readers.{Reads, Part, Any, pair, then, made_all, plain, plain_reads, plain_part, names_one, name_part, some_name}
-use Rattle.ep_syntax.specs.TaskReading.{Declarations, declarations, task, types, objects, fluents, init, schema, statement}
+use Rattle.ep_syntax.specs.TaskReading.{Declarations, declarations, task}
 use Rattle.ep_syntax.proofs.ActionLaws.{schemas_part}
 use Rattle.ep_syntax.proofs.DeclarationLaws.{braced_of, types_of, types_part, objects_one, objects_part, fluents_part}
 use Rattle.ep_syntax.proofs.InitialLaws.{statement_part, init_part}

@@ -9,7 +9,7 @@ use Rattle.ep_tree.specs.declared.tree.GroupTree.TheVariants as group_tree
 use Rattle.ep_tree.specs.declared.tree.ParamTree.{ParamTree}
 use Rattle.ep_tree.specs.declared.tree.FormulaTree.{FormulaTree}
 use Rattle.ep_tree.specs.declared.tree.FormulaTree.TheVariants as tree
-use Rattle.ep_syntax.specs.Reading.{Token, Syntax, TooDeep, Read, Reader, seq, made, heads, begins, key, name, name_begins, each, front, behind_key, listed, any_listed, within, whole}
+use Rattle.ep_syntax.specs.Reading.{Token, Syntax, TooDeep, Reader, seq, made, heads, begins, key, name, name_begins, each, front, behind_key, listed, any_listed, within, whole}
 use Rattle.ep_tree.specs.Terminals.{is}
 use Rattle.ep_tree.specs.Terminals.{is_name}
 

@@ -25,7 +25,7 @@ use Rattle.ep_tree.specs.declared.tree.BodyTree.TheVariants.{Announce, Private, 
 use Rattle.ep_tree.specs.declared.tree.SchemaTree.{SchemaTree}
 use Rattle.ep_tree.specs.declared.tree.FormulaTree.{FormulaTree}
 use Rattle.ep_syntax.specs.FormulaReading.{arguments, atom, group, params, formula}
-use Rattle.ep_syntax.specs.Reading.{Read, Reader, seq, made, begins, key, name, each, some_each, behind_key, listed, any_listed, within, braced, whole}
+use Rattle.ep_syntax.specs.Reading.{Reader, seq, made, begins, key, name, each, some_each, behind_key, listed, any_listed, within, braced, whole}
 use Rattle.ep_tree.specs.Terminals.{is}
 use Rattle.ep_tree.specs.Terminals.{is_name}
 

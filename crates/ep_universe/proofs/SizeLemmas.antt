@@ -15,7 +15,7 @@ use Rattle.ep_tree.specs.declared.tree.FormulaTree.{FormulaTree, roll-FormulaTre
 use Rattle.ep_tree.specs.declared.tree.FormulaTree.TheOpen.{FormulaTree-F}
 use Rattle.ep_tree.specs.declared.tree.FormulaTree.TheFolds.{map-FormulaTree, fold-roll-FormulaTree, ind-FormulaTree}
 use Rattle.ep_types.specs.Faults.{first_fault, first_row, table}
-use Rattle.ep_types.specs.Places.{Scope, Uses, with_params, both, at, each, Group, Knowledge}
+use Rattle.ep_types.specs.Places.{Scope, Uses, with_params, at, each, Group, Knowledge}
 use Rattle.ep_types.specs.Uses.{param_uses, agent_uses, group_uses, knower_uses, knowers_uses, production, formula_uses}
 use Rattle.ep_universe.specs.Sizes.{nesting, nesting_layer, is_whole, whole_layer, has_member}
 use Rattle.ep_universe.proofs.TreeLemmas.{nesting-roll, whole-roll}

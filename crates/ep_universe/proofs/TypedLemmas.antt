@@ -8,7 +8,7 @@ use Rattle.ep_tree.specs.declared.tree.TaskTree.{TaskTree}
 use Rattle.ep_types.specs.Atoms.{texts}
 use Rattle.ep_types.specs.Faults.{first_fault, first_row, located, or_else, table}
 use Rattle.ep_types.specs.Names.{Text, Typings, names_of, values_of}
-use Rattle.ep_types.specs.Places.{Use, Uses, both, at, NewName, ParamType}
+use Rattle.ep_types.specs.Places.{Uses, both, at, NewName, ParamType}
 use Rattle.ep_types.specs.Tasks.{HasNoFault, declarations, start, with_type, after_types, with_objects, with_object, after_objects, with_fluent, after_fluents, kind_uses, fluent_uses, type_uses, object_uses, declaration_uses, rest_uses}
 use Rattle.ep_types.specs.declared.fault.TypeFault.{TypeFault}
 use Rattle.ep_types.specs.declared.scope.Declared.{Declared}

@@ -23,7 +23,7 @@ use Rattle.ep_tree.specs.declared.tree.FormulaTree.TheOpen.{FormulaTree-F}
 use Rattle.ep_tree.specs.declared.tree.FormulaTree.TheFolds.{map-FormulaTree, fold-roll-FormulaTree, ind-FormulaTree}
 use Rattle.ep_types.specs.Faults.{first_fault, first_row, table, is_apart, has_other_count}
 use Rattle.ep_types.specs.Names.{Text, Typings, declared, is_text, is_below, names_of, values_of}
-use Rattle.ep_types.specs.Places.{Scope, Uses, with_param, with_params, type_of, or_object, both, at, each, UsedFluent, Argument, Agent, Group, Knowledge}
+use Rattle.ep_types.specs.Places.{Scope, Uses, with_params, type_of, or_object, at, each, UsedFluent, Argument, Agent, Group, Knowledge}
 use Rattle.ep_types.specs.Uses.{param_uses, argument_uses, kinds_of, atom_uses, agent_uses, group_uses, knower_uses, knowers_uses, production, formula_uses}
 use Rattle.ep_types.specs.declared.scope.Declared.{Declared}
 use Rattle.ep_universe.specs.declared.atoms.GroundAtom.{GroundAtom}

@@ -1,4 +1,4 @@
-use Rattle.std.proofs.Common.{◌≡◌, false, IfErr, OnOk, subst, sym, ap, map}
+use Rattle.std.proofs.Common.{◌≡◌, false, IfErr, OnOk, subst, sym, map}
 use Rattle.ep_event.specs.Built.{set_of as built_set}
 use Rattle.ep_theory.specs.Events.{EventModel}
 use Rattle.ep_theory.specs.FourActions.{assign}

@@ -1,4 +1,4 @@
-use Rattle.std.proofs.Common.{◌≡◌, ◌+◌, ap, sym, ◌∙◌, unwrap_or, drop, cond, true, false}
+use Rattle.std.proofs.Common.{◌≡◌, ◌+◌, ap, sym, ◌∙◌, unwrap_or, drop, cond}
 use Rattle.std.specs.Option.{option_copied}
 use Rattle.ep_theory.specs.FourActions.{is_member}
 use Rattle.ep_event.proofs.KindLemmas.{has_is_member}

@@ -1,7 +1,6 @@
 use Rattle.ep_lex.specs.Tokens.{spellings}
 use Rattle.ep_syntax.specs.FormulaReading.{formula, whole_formula}
 use Rattle.ep_tree.specs.Grammar.{formulas}
-use Rattle.ep_syntax.specs.Reading.{whole}
 use Rattle.ep_syntax.proofs.FormulaLaws.{formula_outcome}
 use Rattle.ep_syntax.proofs.Whole.{said_read, said_only, said_all_read, said_syntax, said_all_syntax, said_deep, said_all_deep}
 use Rattle.ep_syntax.proofs.read.read_formula.Goals as goal

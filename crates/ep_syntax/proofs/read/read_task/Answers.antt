@@ -1,7 +1,6 @@
 use Rattle.ep_lex.specs.Tokens.{spellings}
 use Rattle.ep_syntax.specs.TaskReading.{task, whole_task}
 use Rattle.ep_tree.specs.Grammar.{tasks}
-use Rattle.ep_syntax.specs.Reading.{whole}
 use Rattle.ep_syntax.proofs.TaskLaws.{task_outcome}
 use Rattle.ep_syntax.proofs.Whole.{said_read, said_only, said_all_read, said_syntax, said_all_syntax, said_deep, said_all_deep}
 use Rattle.ep_syntax.proofs.read.read_task.Goals as goal

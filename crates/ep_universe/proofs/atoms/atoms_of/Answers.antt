@@ -1,4 +1,4 @@
-use Rattle.std.proofs.Common.{◌≡◌, ◌+◌, ◌++◌, length, map, get_or, ap, sym, ◌∙◌, arith}
+use Rattle.std.proofs.Common.{◌≡◌, ◌++◌, length, map, get_or, ap, sym, ◌∙◌, arith}
 use Rattle.ep_binding.specs.Bindings.{bindings}
 use Rattle.ep_types.specs.Atoms.{texts}
 use Rattle.ep_types.specs.Tasks.{declarations}

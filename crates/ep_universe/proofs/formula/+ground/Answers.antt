@@ -1,10 +1,8 @@
 use Rattle.std.proofs.Common.{◌≡◌, ℕ, length, map, rules, arith, sym, ap, ◌∙◌, subst}
 use Rattle.ep_logic.specs.declared.formula.Node.TheVariants as node
 use Rattle.ep_binding.specs.Bindings.{bindings}
-use Rattle.ep_tree.specs.declared.tree.FormulaTree.TheVariants as tree
 use Rattle.ep_tree.specs.declared.tree.FormulaTree.TheFolds.{the_lemmas}
-use Rattle.ep_universe.specs.Objects.{agent_at, group_of, candidates}
-use Rattle.ep_universe.specs.Atoms.{atom_at}
+use Rattle.ep_universe.specs.Objects.{agent_at, candidates}
 use Rattle.ep_universe.specs.Formulas.{ground_of, conjunction, disjunction, instances}
 use Rattle.ep_universe.specs.Sizes.{IsBuildable, AreBuildable, IsRepeatable, IsMakeable}
 use Rattle.ep_universe.proofs.GroundLemmas.{small-Not, small-Knows, small-Common, small-Paren, small-Forall, small-Exists, small-And, small-Or, small-instance, some-member, makeable-Not, makeable-Knows, makeable-Common, makeable-Forall, makeable-Exists, makeable-And, makeable-Or, length-instances, length-And, length-Or, ground-parts-And, ground-parts-Or, given}

@@ -1,4 +1,4 @@
-use Rattle.std.proofs.Common.{◌+◌, ◌++◌, ◌∷◌, [], take, ap, sym, ◌∙◌, append_assoc, arith}
+use Rattle.std.proofs.Common.{◌++◌, ◌∷◌, [], take, ap, sym, ◌∙◌, append_assoc, arith}
 use Rattle.ep_universe.specs.Objects.{bound}
 use Rattle.ep_universe.proofs.ObjectLemmas.{bound-in, bound-out}
 use Rattle.ep_universe.proofs.objects.wider.Goals as goal

@@ -1,5 +1,5 @@
 -- What is told of a trial.
-use Rattle.std.proofs.Common.{◌≡◌, ◌+◌, ℕ, [], ◌∷◌, ◌++◌, append_assoc, codes, decimal, ap}
+use Rattle.std.proofs.Common.{◌≡◌, ℕ, [], ◌∷◌, ◌++◌, append_assoc, codes, decimal, ap}
 use Rattle.ep_plan.specs.declared.verdicts.Verdict.{Verdict}
 use Rattle.ep_answer.specs.declared.trial_text.TrialEnd.TheVariants.{Solved}
 use Rattle.ep_answer.specs.Answer.{end_text, verdict_text}

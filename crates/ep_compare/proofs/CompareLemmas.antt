@@ -1,5 +1,5 @@
 -- What `same` tells, and how it puts its steps together.
-use Rattle.std.proofs.Common.{ℕ, List, refl, inl, inr, Result, Ok, Err}
+use Rattle.std.proofs.Common.{ℕ, List, refl, inl, inr, Result, Err}
 use Rattle.ep_logic.specs.declared.ids.ActionId.{ActionId}
 use Rattle.ep_theory.specs.Kripke.{Kripke}
 use Rattle.ep_parts.specs.Task.{GroundTask}

@@ -1,5 +1,5 @@
 -- The guide at a place, if there is one.
-use Rattle.std.proofs.Common.{◌≡◌, ◌<◌, ◌≤◌, ◌↔◌, ◌-◌, ℕ, List, Result, inl, inr, refl, arith, Ok, Err}
+use Rattle.std.proofs.Common.{◌≡◌, ◌<◌, ◌≤◌, ◌↔◌, ℕ, List, Result, inl, inr, refl, arith, Ok, Err}
 use Rattle.std.proofs.lemmas.Result.{MatchResult-weaker}
 use Rattle.ep_io.specs.Library.{LibraryState, FileMap}
 use Rattle.ep_answer.specs.declared.answer.Answer.{Answer}

@@ -6,7 +6,6 @@ use Rattle.ep_answer.specs.Answer.{planned_status, end_status}
 use Rattle.ep_trial.specs.TrialText.{action_lines, declaration_lines, initial_lines, listed, muddy, sees_line, trial_text}
 use Rattle.ep_parts.specs.Task.{GroundTask}
 use Rattle.ep_answer.specs.declared.answer.Answer.TheVariants.{Tried}
-use Rattle.ep_answer.specs.declared.cause.Subject.TheVariants.{Plan}
 use Rattle.ep_answer.specs.declared.planned.Planned.{Planned}
 use Rattle.ep_answer.specs.declared.planned.Planned.TheVariants as planned
 use Rattle.ep_answer.specs.declared.trial_text.TrialEnd.{TrialEnd}

@@ -1,5 +1,5 @@
 -- How often a formula is true at the designated worlds of what a plan leaves.
-use Rattle.std.proofs.Common.{◌≡◌, ◌<◌, ◌+◌, ℕ, suc, All, Bool, false, cond, count_by, get_or, List, [], ◌∷◌, length, refl, sym, ap, ◌∙◌, arith}
+use Rattle.std.proofs.Common.{◌≡◌, ◌<◌, ◌+◌, ℕ, suc, All, Bool, false, cond, count_by, List, [], ◌∷◌, length, refl, sym, ap, ◌∙◌, arith}
 use Rattle.std.specs.List.{fold}
 use Rattle.ep_logic.specs.declared.formula.Node.{Node}
 use Rattle.ep_theory.specs.Kripke.{Kripke, IsState}

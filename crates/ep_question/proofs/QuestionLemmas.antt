@@ -1,5 +1,5 @@
 -- What the questions tell.
-use Rattle.std.proofs.Common.{◌∙◌, codes, ◌≡◌, ℕ, List, ◌++◌, refl, ap, Ok}
+use Rattle.std.proofs.Common.{◌∙◌, codes, ◌≡◌, ℕ, List, ◌++◌, refl, ap}
 use Rattle.ep_logic.specs.declared.formula.Node.{Node}
 use Rattle.ep_logic.specs.declared.ids.ActionId.{ActionId}
 use Rattle.ep_theory.specs.Kripke.{Kripke}
@@ -7,7 +7,6 @@ use Rattle.ep_plan.specs.declared.verdicts.Verdict.{Verdict}
 use Rattle.ep_plan.specs.declared.verdicts.Verdict.TheVariants as verdict
 use Rattle.ep_parts.specs.Task.{GroundTask}
 use Rattle.ep_answer.specs.declared.answer.Answer.TheVariants.{Judged}
-use Rattle.ep_answer.specs.declared.run_stop.RunStop.TheVariants.{SpentWorlds, SpentLinks}
 use Rattle.ep_answer.specs.declared.status.Status.{Status}
 use Rattle.ep_answer.specs.declared.status.Status.TheVariants as done
 use Rattle.ep_answer.specs.Answer.{line}

@@ -16,7 +16,7 @@ use Rattle.ep_answer.specs.declared.cause.Cause.TheVariants as cause
 use Rattle.ep_answer.specs.declared.cause.Subject.TheVariants.{Formula}
 use Rattle.ep_answer.specs.declared.status.Status.{Status}
 use Rattle.ep_reading.specs.FormulaWord.{Formed, FormulaRead, FormulaWord, TellsFormulaFault, ground_form}
-use Rattle.ep_reading.specs.Served.{Outcome, Answers, AreLexed, Parsed, Sized, Tokenized, answers, place_at}
+use Rattle.ep_reading.specs.Served.{Outcome, Answers, AreLexed, Parsed, Tokenized, answers, place_at}
 use Rattle.ep_reading.specs.Steps.{IsFormOf, IsFormulaOf, StopsBy, nothing_behind}
 use Rattle.ep_reading.proofs.Steps.{Parsed-weaker, Sized-weaker, Tokenized-weaker}
 use Rattle.ep_reading.proofs.Told.{IsBehind, long_formula_is_behind, refusal_is_behind}

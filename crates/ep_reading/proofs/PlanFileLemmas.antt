@@ -1,6 +1,6 @@
 -- The plan of a word and its run, as steps of the work.
 use Rattle.std.specs.Str.{bytes_eq}
-use Rattle.std.proofs.Common.{◌≡◌, ◌≢◌, ◌⊎◌, ℕ, Bool, false, ◌∙◌, List, [], Option, Some, MatchOption, IfSome, inl, inr, refl, sym, subst}
+use Rattle.std.proofs.Common.{◌≡◌, ◌≢◌, ◌⊎◌, ℕ, Bool, false, ◌∙◌, List, [], Option, MatchOption, IfSome, inl, inr, refl, sym, subst}
 use Rattle.ep_logic.specs.declared.ids.ActionId.{ActionId}
 use Rattle.ep_theory.specs.Kripke.{Kripke}
 use Rattle.ep_parts.specs.Task.{GroundTask}
@@ -23,7 +23,7 @@ use Rattle.ep_answer.specs.declared.status.Status.{Status}
 use Rattle.ep_answer.specs.Answer.{answer_status, answer_text}
 use Rattle.ep_reading.specs.PlanFile.{IsPlanCause, PlanFile, PlanRead, Ran, RunStops, no_plan, run_size}
 use Rattle.ep_reading.specs.Served.{Outcome, Answers, Fetched, Sized, answers}
-use Rattle.ep_reading.specs.Steps.{IsFetched, IsPlanFile, IsPlanWord, OnlyFile, OnlyPlan, StopsAtFetch, StopsAtPlan, StopsBy, StopsWork, nothing_behind}
+use Rattle.ep_reading.specs.Steps.{IsFetched, IsPlanFile, IsPlanWord, OnlyFile, OnlyPlan, StopsAtFetch, StopsAtPlan, StopsBy, nothing_behind}
 use Rattle.ep_reading.proofs.Lift.{StopsWork-more, all_held, behind_is_answer, file_read, some_map}
 use Rattle.ep_reading.proofs.Steps.{Fetched-weaker}
 use Rattle.ep_reading.proofs.Told.{IsBehind, refusal_is_behind, stopped_is_behind}

@@ -78,7 +78,14 @@ fn long_texts_are_refused(rt: HostRuntime) -> Result<(), Fail> {
     let long = blanks.as_str();
     let plans = [long, ""];
     let plan = "refused: plan: too long\n";
-    tells_of_plans(&rt, rt.alloc(), (COIN, plans), &["validate", "t", "a"], 3, plan)?;
+    tells_of_plans(
+        &rt,
+        rt.alloc(),
+        (COIN, plans),
+        &["validate", "t", "a"],
+        3,
+        plan,
+    )?;
     let words = ["eval", "t", "-", long];
     let formula = "refused: formula: too long\n";
     tells_of_plans(&rt, rt.alloc(), (COIN, ["", ""]), &words, 3, formula)

@@ -22,8 +22,8 @@ use Rattle.ep_answer.specs.declared.cause.Subject.{Subject}
 use Rattle.ep_answer.specs.declared.cause.Subject.TheVariants.{Task, Plan, FirstPlan, SecondPlan, Formula}
 use Rattle.ep_answer.specs.declared.status.Status.{Status}
 use Rattle.ep_answer.specs.declared.status.Status.TheVariants as status
-use Rattle.ep_types.specs.declared.fault.TypeFault.{TypeFault}
-use Rattle.ep_types.specs.declared.fault.TypeFault.TheVariants as type_fault
+use Rattle.ep_base.specs.Texts.{line}
+use Rattle.ep_types.specs.FaultTexts.{fault_text}
 
 -- ---- refusals
 
@@ -37,16 +37,6 @@ subject_text Formula = codes "formula"
 -- numbers are in decimal
 abbrev pub place_text : Place → List ℕ
 place_text place = codes "token " ++ decimal place.token ++ codes ", line " ++ decimal place.line
-
-abbrev pub fault_text : TypeFault → List ℕ
-fault_text type_fault.TooManyParameters = codes "too many parameters"
-fault_text type_fault.Duplicate = codes "duplicate name"
-fault_text type_fault.Unknown = codes "unknown name"
-fault_text type_fault.WrongArity = codes "wrong number of arguments"
-fault_text type_fault.WrongType = codes "wrong type"
-fault_text type_fault.NotAgent = codes "not an agent"
-fault_text type_fault.EmptyGroup = codes "empty group"
-fault_text type_fault.NotObjective = codes "knowledge not allowed"
 
 abbrev pub cause_text : Cause → List ℕ
 cause_text cause.NoSuchFile = codes "no such file"
@@ -73,9 +63,6 @@ cause_text (cause.UnknownAction line) = codes "unknown action at line " ++ decim
 cause_text cause.WrongCount = codes "wrong count"
 
 -- ---- answers
-
-abbrev pub line : List ℕ → List ℕ
-line text = text ++ 10 ∷ []
 
 abbrev pub counts_text : Counts → List ℕ
 counts_text counts =
@@ -151,10 +138,10 @@ trial_lines t =
 
 abbrev pub answer_text : Answer → List ℕ
 answer_text (Refused subject cause) =
-    codes "refused: " ++ subject_text subject ++ codes ": " ++ cause_text cause ++ 10 ∷ []
+    line (codes "refused: " ++ subject_text subject ++ codes ": " ++ cause_text cause)
 answer_text Misused = line (codes "usage: plan|validate|eval|state|contract|same|check|trial")
 answer_text NoSuchGuide = line (codes "usage: no such guide")
-answer_text (Unreadable subject) = codes "fault: " ++ subject_text subject ++ codes " cannot be read" ++ 10 ∷ []
+answer_text (Unreadable subject) = line (codes "fault: " ++ subject_text subject ++ codes " cannot be read")
 answer_text (Checked counts layout) = line (counts_text counts) ++ layout
 answer_text (OfSearch planned) = planned_text planned
 answer_text (Judged verdict) = line (verdict_text verdict)

@@ -1,6 +1,6 @@
 // Why a text is refused.
-ghost use Rattle.std.specs.Prelude.{◌≡◌, Some};
-ghost use Rattle.ep_answer.specs.Answer.{subject_text, place_text, fault_text, cause_text};
+ghost use Rattle.std.specs.Prelude.{Some};
+ghost use Rattle.ep_answer.specs.Answer.{subject_text, place_text, cause_text};
 
 use ep_base::Text;
 use ep_types::TypeFault;
@@ -103,7 +103,7 @@ impl fmt::Display for Cause {
             Cause::TooManyTokens => f.write_str("too many tokens"),
             Cause::Syntax(place) => write!(f, "syntax at {place}"),
             Cause::TooDeep(place) => write!(f, "too deep at {place}"),
-            Cause::Mistyped(fault, place) => write!(f, "{} at {place}", fault_words(*fault)),
+            Cause::Mistyped(fault, place) => write!(f, "{fault} at {place}"),
             Cause::TooManyObjects { count } => write!(f, "too many objects: {count}"),
             Cause::NoAgent => f.write_str("no agent"),
             Cause::TooManyAgents { count } => write!(f, "too many agents: {count}"),
@@ -120,20 +120,5 @@ impl fmt::Display for Cause {
             Cause::UnknownAction { line } => write!(f, "unknown action at line {line}"),
             Cause::WrongCount => f.write_str("wrong count"),
         }
-    }
-}
-
-fn fault_words(fault: TypeFault) -> &'static str
-    ensures { result.now ≡ fault_text fault }
-{
-    match fault {
-        TypeFault::TooManyParameters => "too many parameters",
-        TypeFault::Duplicate => "duplicate name",
-        TypeFault::Unknown => "unknown name",
-        TypeFault::WrongArity => "wrong number of arguments",
-        TypeFault::WrongType => "wrong type",
-        TypeFault::NotAgent => "not an agent",
-        TypeFault::EmptyGroup => "empty group",
-        TypeFault::NotObjective => "knowledge not allowed",
     }
 }

@@ -2,5 +2,9 @@ pub mod ApartLemmas
 pub mod ListingLemmas
 pub mod DistinctLemmas
 pub mod SharedLemmas
+pub mod SymmetryLemmas
+pub mod NestedLemmas
+pub mod LaminarLemmas
 pub mod CountsLemmas
 pub mod LawsLemmas
+pub mod CallerLemmas

@@ -1,5 +1,4 @@
--- How many bindings give each object to one parameter at most: those whose first object is shared with a later
--- parameter are counted by narrowing that parameter.
+-- Sums over lists and over all bindings, and how many objects a set and a binding share.
 use Rattle.std.proofs.Common.{◌≡◌, ℕ, ◌+◌, ◌*◌, Bool, true, false, ◌&&◌, not, cond, List, [], ◌∷◌, length, map, filter, refl, ap, ◌∙◌, sym, arith}
 use Rattle.std.specs.Prelude.{◌==◌, ◌||◌}
 use Rattle.std.specs.List.{flat_map, sum_by}
@@ -9,8 +8,7 @@ use Rattle.std.proofs.Math.Nat.{mul_comm}
 use Rattle.ep_binding.specs.Bindings.{bindings, distinct_bindings, all_different, contains, with_first}
 
 abbrev pub one : Bool → ℕ
-one true = 1
-one false = 0
+one b = cond b 1 0
 
 module _ {X : Type 0} where
   -- sums
@@ -76,7 +74,7 @@ sum-bindings f c cs = sum-extended f (bindings cs) c
 mul-one-right : (n : ℕ) → n * 1 ≡ n
 mul-one-right n = omega arith
 
-add-mul-right : (a b c : ℕ) → (a + b) * c ≡ a * c + b * c
+pub add-mul-right : (a b c : ℕ) → (a + b) * c ≡ a * c + b * c
 add-mul-right a b c = omega arith
 
 -- ---- tests
@@ -96,7 +94,7 @@ one-or : (p q : Bool) → (p ≡ true → q ≡ false) → one (p || q) ≡ one 
 one-or true q h = let e = ap one (h refl) in omega arith
 one-or false q h = omega arith
 
-test_comm : (x y : ℕ) (p q : Bool) → (x == y) ≡ p → (y == x) ≡ q → p ≡ q
+pub test_comm : (x y : ℕ) (p q : Bool) → (x == y) ≡ p → (y == x) ≡ q → p ≡ q
 test_comm x y true true h k = refl
 test_comm x y false false h k = refl
 test_comm x y true false h k = sym ((Decides-eqb y x).1 (sym ((Decides-eqb x y).0 h))) ∙ k
@@ -112,11 +110,11 @@ one-contains a (x ∷ xs) h =
     ∙ sym (sum_by-cons (λ y. one (y == a)) x xs)
 
 -- how many objects of a binding stand in a list
-abbrev shared : List ℕ → List ℕ → ℕ
+abbrev pub shared : List ℕ → List ℕ → ℕ
 shared a b = sum_by (λ y. one (contains a y)) b
 
 -- counted from either list
-shared_comm : (a b : List ℕ) → all_different a ≡ true → all_different b ≡ true → shared b a ≡ shared a b
+pub shared_comm : (a b : List ℕ) → all_different a ≡ true → all_different b ≡ true → shared b a ≡ shared a b
 shared_comm a b h k =
     sum-same (λ x. one (contains b x)) (λ x. sum_by (λ y. one (y == x)) b) a (λ x. one-contains x b k)
     ∙ sum-swap (λ x y. one (y == x)) a b
@@ -134,7 +132,7 @@ weighed a b h true k = ap (λ n. 1 * n) (shared_comm a b h k)
 weighed a b h false k = omega arith
 
 -- the objects of a list before one binding
-before-one : (a b : List ℕ) → all_different a ≡ true →
+pub before-one : (a b : List ℕ) → all_different a ≡ true →
     sum_by (λ x. one (all_different (x ∷ b))) a + one (all_different b) * shared a b ≡ length a * one (all_different b)
 before-one a b h =
     ap (λ n. sum_by (λ x. one (all_different (x ∷ b))) a + n) (sym (weighed a b h (all_different b) refl) ∙ sym (sum-times (λ x. one (contains b x)) (one (all_different b)) a))
@@ -144,48 +142,7 @@ before-one a b h =
     ∙ ap (λ n. one (all_different b) * n) (sym (length-sum a))
     ∙ mul_comm (one (all_different b)) (length a)
 
--- the parameters, with one of them narrowed to the objects of a list, for each of them
-abbrev pub narrows : List ℕ → List (List ℕ) → List (List (List ℕ))
-narrows a [] = []
-narrows a (c ∷ cs) = (filter (contains a) c ∷ cs) ∷ map (λ ds. c ∷ ds) (narrows a cs)
-
--- narrowing each parameter in turn counts each binding as often as it shares
-narrows-sum : (a : List ℕ) (f : List ℕ → ℕ) (cs : List (List ℕ)) →
-    sum_by (λ ds. sum_by f (bindings ds)) (narrows a cs) ≡ sum_by (λ b. shared a b * f b) (bindings cs)
-narrows-sum a f [] = let e = sum_by-cons (λ b. shared a b * f b) [] [] in omega arith
-narrows-sum a f (c ∷ cs) =
-    let g : ℕ → List ℕ → ℕ = λ o b. f (o ∷ b) in
-    let each : (o : ℕ) → one (contains a o) * sum_by (g o) (bindings cs) + sum_by (λ ds. sum_by (g o) (bindings ds)) (narrows a cs) ≡ sum_by (λ b. shared a (o ∷ b) * f (o ∷ b)) (bindings cs) =
-    λ o.
-    (λ i. sym (sum-times (g o) (one (contains a o)) (bindings cs)) i + narrows-sum a (g o) cs i)
-    ∙ sym (sum-plus (λ b. one (contains a o) * g o b) (λ b. shared a b * g o b) (bindings cs))
-    ∙ sum-same (λ b. one (contains a o) * g o b + shared a b * g o b) (λ b. shared a (o ∷ b) * f (o ∷ b)) (bindings cs)
-    (λ b. sym (add-mul-right (one (contains a o)) (shared a b) (g o b)) ∙ ap (λ n. n * g o b) (sym (sum_by-cons (λ y. one (contains a y)) o b)))
-    in
-    sum_by-cons (λ ds. sum_by f (bindings ds)) (filter (contains a) c ∷ cs) (map (λ ds. c ∷ ds) (narrows a cs))
-    ∙ (λ i. (sum-bindings f (filter (contains a) c) cs ∙ sum-filter (contains a) (λ o. sum_by (g o) (bindings cs)) c) i
-    + (sum-map (λ ds. sum_by f (bindings ds)) (λ ds. c ∷ ds) (narrows a cs)
-    ∙ sum-same (λ ds. sum_by f (bindings (c ∷ ds))) (λ ds. sum_by (λ o. sum_by (g o) (bindings ds)) c) (narrows a cs) (λ ds. sum-bindings f c ds)
-    ∙ sum-swap (λ ds o. sum_by (g o) (bindings ds)) (narrows a cs) c) i)
-    ∙ sym (sum-plus (λ o. one (contains a o) * sum_by (g o) (bindings cs)) (λ o. sum_by (λ ds. sum_by (g o) (bindings ds)) (narrows a cs)) c)
-    ∙ sum-same _ _ c each
-    ∙ sym (sum-bindings (λ b. shared a b * f b) c cs)
-
 pub distinct-sum : (cs : List (List ℕ)) → length (distinct_bindings cs) ≡ sum_by (λ b. one (all_different b)) (bindings cs)
 distinct-sum cs =
     length-sum (distinct_bindings cs) ∙ sum-filter all_different (λ b. 1) (bindings cs)
     ∙ sum-same (λ b. one (all_different b) * 1) (λ b. one (all_different b)) (bindings cs) (λ b. mul-one-right (one (all_different b)))
-
--- the recursion by which they are counted
-pub distinct_count : (a : List ℕ) (cs : List (List ℕ)) → all_different a ≡ true →
-    length (distinct_bindings (a ∷ cs)) + sum_by (λ ds. length (distinct_bindings ds)) (narrows a cs) ≡ length a * length (distinct_bindings cs)
-distinct_count a cs h =
-    let f : List ℕ → ℕ = λ b. one (all_different b) in
-    (λ i. (distinct-sum (a ∷ cs) ∙ sum-bindings f a cs ∙ sum-swap (λ o b. f (o ∷ b)) a (bindings cs)) i
-    + (sum-same (λ ds. length (distinct_bindings ds)) (λ ds. sum_by f (bindings ds)) (narrows a cs) distinct-sum
-    ∙ narrows-sum a f cs
-    ∙ sum-same (λ b. shared a b * f b) (λ b. f b * shared a b) (bindings cs) (λ b. mul_comm (shared a b) (f b))) i)
-    ∙ sym (sum-plus (λ b. sum_by (λ o. f (o ∷ b)) a) (λ b. f b * shared a b) (bindings cs))
-    ∙ sum-same (λ b. sum_by (λ o. f (o ∷ b)) a + f b * shared a b) (λ b. length a * f b) (bindings cs) (λ b. before-one a b h)
-    ∙ sum-times f (length a) (bindings cs)
-    ∙ ap (λ n. length a * n) (sym (distinct-sum cs))

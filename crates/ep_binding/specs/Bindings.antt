@@ -5,6 +5,7 @@ use Rattle.std.specs.declared.cmp.Ordering.TheVariants.{Less}
 use Rattle.std.specs.Ordering.{nat_cmp}
 use Rattle.std.specs.Cmp.Lexicographic.{slice_cmp}
 use Rattle.std.specs.List.{list_any, flat_map, slice_index_or}
+use Rattle.ep_binding.specs.declared.limits.TheConstants.{MOST_OBJECTS}
 
 -- the bindings with an object before each
 abbrev pub with_first : List (List ℕ) → ℕ → List (List ℕ)
@@ -49,9 +50,9 @@ pub record IsBinding (cs : List (List ℕ)) (b : List ℕ) : Type 0 where
 abbrev pub IsApart : {X : Type 0} → List X → Type 0
 IsApart xs = AllPairs (λ x y. x ≢ y) xs
 
--- a parameter's objects: at most 64, each once
+-- a parameter's objects: not too many, and each once
 pub record IsObjects (c : List ℕ) : Type 0 where
-  pub few : length c ≤ 64
+  pub few : length c ≤ MOST_OBJECTS
   pub apart : IsApart c
 
 -- lexicographic order

@@ -1,16 +1,18 @@
 // Exact numbers of bindings, without a list of them.
 
-ghost use Rattle.std.specs.Prelude.{◌≡◌, ◌<◌, ◌≤◌, ◌^◌, [], ◌∷◌, All, IfOk, length, filter, slice_set, slice_index_or};
-ghost use Rattle.ep_binding.specs.Bindings.{bindings, binding_count, distinct_bindings, contains, IsObjects};
+ghost use Rattle.std.specs.Prelude.{◌≡◌, ◌+◌, ◌<◌, ◌≤◌, ◌^◌, [], All, count_by, drop, length, slice_index_or, take};
+ghost use Rattle.ep_binding.specs.Bindings.{bindings, binding_count, distinct_bindings, IsObjects};
+ghost use Rattle.ep_binding.specs.Counts.{meets, objects_left, takes_before, takes_behind};
+ghost use Rattle.ep_binding.specs.Laminar.{IsLaminar};
+ghost use Rattle.ep_binding.specs.declared.limits.TheConstants.{MOST_OBJECTS, MOST_PARAMETERS};
 
 use crate::distinct::contains;
-use ep_base::{List, OutOfMemory};
-use std::alloc::Global;
+use ep_base::List;
 
-/// The number of bindings of at most 6 parameters with at most 64 objects each. It takes no memory.
+/// The number of bindings of parameters with objects each. It takes no memory.
 pub fn binding_count(params: &[List<u32>]) -> u64
-    requires few { length params.now ≤ 6 }
-    requires objects { All (λ c. length c ≤ 64) params.now }
+    requires few { length params.now ≤ MOST_PARAMETERS }
+    requires objects { All (λ c. length c ≤ MOST_OBJECTS) params.now }
     ensures exact { result ≡ length (bindings params.now) }
     ensures product { result ≡ binding_count params.now }
     ensures most { result ≤ 2 ^ 36 }
@@ -22,75 +24,66 @@ pub fn binding_count(params: &[List<u32>]) -> u64
     count
 }
 
-/// The number of bindings that give each object to one parameter at most. It takes at most 6! steps whatever the
-/// number of objects, each over lists of at most 64 of them: the bindings whose first object is shared with a later
-/// parameter are taken off, and are counted by narrowing that parameter to the objects of the first. (This project's
-/// own.)
-#[cycle(distinct)]
-pub fn distinct_count(alloc: Global, params: &[List<u32>]) -> Result<u64, OutOfMemory>
-    requires few { length params.now ≤ 6 }
+/// The number of bindings that give each object to one parameter at most, where any two sets of objects are disjoint or
+/// one lies in the other. It takes no memory: the parameters choose from the smallest set up, and each has the objects
+/// of its set but those that are taken, one by each that chose before it and has a set within its own.
+pub fn distinct_count(params: &[List<u32>]) -> u64
+    requires few { length params.now ≤ MOST_PARAMETERS }
     requires objects { All IsObjects params.now }
-    ensures exact { IfOk result (λ n. n ≡ length (distinct_bindings params.now)) }
-    ensures most { IfOk result (λ n. n ≤ 2 ^ 36) }
+    requires laminar { IsLaminar params.now }
+    ensures exact { result ≡ length (distinct_bindings params.now) }
+    ensures most { result ≤ 2 ^ 36 }
 {
-    match params {
-        [] => Ok(1),
-        [first, rest @ ..] => count_with_first(alloc, first.as_slice(), rest),
+    let mut count = 1;
+    for place in 0..params.len() {
+        count *= count_left(params, place);
     }
+    count
 }
 
-#[cycle(distinct)]
-fn count_with_first(alloc: Global, first: &[u32], rest: &[List<u32>]) -> Result<u64, OutOfMemory>
-    requires few { length rest.now ≤ 5 }
-    requires first { IsObjects first.now }
-    requires objects { All IsObjects rest.now }
-    ensures exact { IfOk result (λ n. n ≡ length (distinct_bindings (first.now ∷ rest.now))) }
-    ensures most { IfOk result (λ n. n ≤ 2 ^ 36) }
+/// The objects that are left for the parameter at a place. One whose set is smaller, or as small and that stands before
+/// it, chooses first.
+fn count_left(params: &[List<u32>], place: usize) -> u64
+    requires { place < length params.now }
+    ensures { result ≡ objects_left (take place params.now) (slice_index_or params.now place []) (drop (place + 1) params.now) }
 {
-    let all = distinct_count(alloc, rest)?;
-    let mut shared = 0;
-    for at in 0..rest.len() {
-        let narrowed = narrowed(alloc, first, rest, at)?;
-        shared += distinct_count(alloc, narrowed.as_slice())?;
-    }
-    Ok(first.len() as u64 * all - shared)
+    let objects = params[place].as_slice();
+    let before = count_before(&params[..place], objects);
+    let behind = count_behind(&params[place + 1..], objects);
+    objects.len().saturating_sub(before + behind) as u64
 }
 
-// The parameters, with the one at a place narrowed to the objects of a list.
-fn narrowed(
-    alloc: Global,
-    objects: &[u32],
-    params: &[List<u32>],
-    at: usize,
-) -> Result<List<List<u32>>, OutOfMemory>
-    requires { at < length params.now }
-    ensures { IfOk result (λ cs. cs
-        ≡ slice_set params.now at (filter (contains objects.now) (slice_index_or params.now at []))) }
+fn count_before(params: &[List<u32>], objects: &[u32]) -> usize
+    ensures value { result ≡ count_by (takes_before objects.now) params.now }
+    ensures few { result ≤ length params.now }
 {
-    let mut lists = copies(alloc, params)?.into_vec();
-    lists[at] = kept(alloc, objects, params[at].as_slice())?;
-    Ok(List::from_vec(lists))
+    params
+        .iter()
+        .filter(|other| {
+            other.as_slice().len() <= objects.len() && meets(other.as_slice(), objects)
+        })
+        .count()
 }
 
-fn copies(alloc: Global, lists: &[List<u32>]) -> Result<List<List<u32>>, OutOfMemory>
-    ensures { IfOk result (λ copies. copies ≡ lists.now) }
+fn count_behind(params: &[List<u32>], objects: &[u32]) -> usize
+    ensures value { result ≡ count_by (takes_behind objects.now) params.now }
+    ensures few { result ≤ length params.now }
 {
-    let mut copies = List::new(alloc);
-    for list in lists {
-        copies.push(List::from_vec(Vec::from_slice(alloc, list.as_slice())?))?;
-    }
-    Ok(copies)
+    params
+        .iter()
+        .filter(|other| {
+            other.as_slice().len() < objects.len() && meets(other.as_slice(), objects)
+        })
+        .count()
 }
 
-// The objects of a list that another has.
-fn kept(alloc: Global, objects: &[u32], list: &[u32]) -> Result<List<u32>, OutOfMemory>
-    ensures { IfOk result (λ kept. kept ≡ filter (contains objects.now) list.now) }
+/// Whether the first object of one set is in another. Where the sets are disjoint or one lies in the other, this is
+/// whether they are not disjoint.
+fn meets(first: &[u32], second: &[u32]) -> bool
+    ensures { result ≡ meets first.now second.now }
 {
-    let mut kept = List::new(alloc);
-    for object in list {
-        if contains(objects, *object) {
-            kept.push(*object)?;
-        }
+    match first {
+        [] => false,
+        [object, ..] => contains(second, *object),
     }
-    Ok(kept)
 }

@@ -5,15 +5,12 @@ use Rattle.std.specs.Ordering.{nat_cmp}
 use Rattle.std.specs.List.{AllByRecursion, flat_map}
 use Rattle.std.proofs.lemmas.List.{get_or_append_left, get_or-append-add, length-append}
 use Rattle.std.proofs.lemmas.Nat.{mul-add-lt}
-use Rattle.ep_theory.specs.Numbers.{has_number}
+use Rattle.ep_logic.specs.Numbers.{has_number}
 use Rattle.ep_theory.specs.Kripke.{Kripke, IsState, pair_cmp, links_of, truth_of, successors}
 use Rattle.ep_theory.specs.Bisimulation.{Bisimilar}
 use Rattle.ep_theory.specs.Canonical.{Contracts}
-use Rattle.ep_theory.proofs.Filters.{All-at}
-use Rattle.ep_theory.proofs.Laws.{equal_contractions}
-use Rattle.ep_theory.proofs.Lists.{at_All, All-from_each, same_rising, from_successors, IsIn-successors}
-use Rattle.ep_theory.proofs.NumbersLemmas.{length-table, get_or-table, from_table, to_has_number, from_has_number}
-use Rattle.ep_theory.proofs.Unique.{numbers, pairs, same_places, links_rising, links_within}
+use Rattle.ep_theory.proofs.CallerLemmas.{All-at, equal_contractions, at_All, All-from_each, same_rising, from_successors, IsIn-successors, from_table, to_has_number, from_has_number, numbers, pairs, same_places, links_rising, links_within}
+use Rattle.ep_logic.proofs.CallerLemmas.{length-table, get_or-table}
 use Rattle.ep_canon.specs.Bytes.{row_size, row_bytes, members, successor_rows, header, bytes_of}
 use Rattle.ep_canon.specs.Reading.{bit_from}
 use Rattle.ep_canon.proofs.RowBytesLemmas.{length-row_bytes, bit_of_row, length-pieces, at_piece}
@@ -228,7 +225,7 @@ module _ (S R : Kripke) (s : IsState S) (r : IsState R) (e : bytes_of S ≡ byte
 pub bytes_decide : (S R : Kripke) → IsState S → IsState R → (bytes_of S ≡ bytes_of R) ↔ (S ≡ R)
 bytes_decide S R s r = (same_bytes S R s r, ap bytes_of)
 
-pub bytes_of_contractions_decide : (S R C D : Kripke) → IsState C → IsState D → Contracts S C → Contracts R D → (bytes_of C ≡ bytes_of D) ↔ Bisimilar S R
-bytes_of_contractions_decide S R C D c d f g =
-    let one = equal_contractions S R C D c d f g in
-    (λ e. one.0 (same_bytes C D c d e), λ b. ap bytes_of (one.1 b))
+pub bytes_of_contractions_decide : (S R C D : Kripke) → Contracts S C → Contracts R D → (bytes_of C ≡ bytes_of D) ↔ Bisimilar S R
+bytes_of_contractions_decide S R C D f g =
+    let one = equal_contractions S R C D f g in
+    (λ e. one.0 (same_bytes C D f.valid g.valid e), λ b. ap bytes_of (one.1 b))

@@ -4,3 +4,4 @@ pub mod BytesLemmas
 pub mod WritingLemmas
 pub mod ToldLemmas
 pub mod ReadingLemmas
+pub mod CallerLemmas

@@ -7,25 +7,16 @@ use Rattle.ep_theory.specs.Bisimulation.{BisimilarWorlds, Bisimilar}
 use Rattle.ep_theory.specs.Canonical.{Reached, Contracts, IsCanonical, start, step}
 use Rattle.ep_theory.specs.Ranks.{RanksAt}
 use Rattle.ep_theory.specs.Image.{IsImage}
-use Rattle.ep_theory.proofs.Bridges.{Contains-from_in}
-use Rattle.ep_theory.proofs.Canonical.{canonical_is_own_contraction}
-use Rattle.ep_theory.proofs.Counting.{last_or_before}
-use Rattle.ep_theory.proofs.Equivalence.{bisimilar_sym, bisimilar_trans}
-use Rattle.ep_theory.proofs.Exists.{some_element}
-use Rattle.ep_theory.proofs.Filters.{IsIn-at}
-use Rattle.ep_theory.proofs.Images.{contracts_from_ranks, part_bisimilar, part_reached}
-use Rattle.ep_theory.proofs.Laws.{classes_decide}
-use Rattle.ep_theory.proofs.Lists.{at_All, All-from_each}
-use Rattle.ep_theory.proofs.Unique.{unique, links_within}
+use Rattle.ep_theory.proofs.CallerLemmas.{Contains-from_in, canonical_is_own_contraction, last_or_before, bisimilar_trans, some_element, IsIn-at, contracts_from_ranks, part_bisimilar, part_reached, classes_decide, at_All, All-from_each, links_within}
 use Rattle.ep_refine.specs.Numbering.{AreNumbers}
-use Rattle.ep_refine.specs.Marking.{is_marked}
+use Rattle.ep_logic.specs.Rows.{value_at}
 use Rattle.ep_refine.specs.Choices.{IsChoice}
 use Rattle.ep_refine.specs.Kept.{KeepsDesignated, IsRestriction, kept_before}
-use Rattle.ep_refine.proofs.KeptLemmas.{image_as, kept_apart}
+use Rattle.ep_refine.proofs.CallerLemmas.{image_as, kept_apart}
 use Rattle.ep_canon.specs.Quotient.{StandFor}
 
 -- rows of true values
-pub all_true : (n w : ℕ) → w < n → is_marked (replicate n true) w ≡ true
+pub all_true : (n w : ℕ) → w < n → value_at (replicate n true) w ≡ true
 all_true zero w l = absurd (omega arith)
 all_true (suc n) zero l = refl
 all_true (suc n) (suc w) l = all_true n w (omega arith)
@@ -69,8 +60,8 @@ each_stands classes chosen count i n l h c b =
 module _ (S : Kripke) (s : IsState S) (classes chosen : List ℕ) (count : ℕ) (row : List Bool)
     (one_each : length classes ≡ S.worlds) (ordered : RanksAt S S.worlds (slice_index classes)) (used : AreNumbers classes count)
     (long : length chosen ≡ count) (each : (c : ℕ) → c < count → StandFor classes chosen c) (kept : row ≡ replicate S.worlds true) where
-  keeps : (w : ℕ) → w < S.worlds → is_marked row w ≡ true
-  keeps w b = ap (λ r. is_marked r w) kept ∙ all_true S.worlds w b
+  keeps : (w : ℕ) → w < S.worlds → value_at row w ≡ true
+  keeps w b = ap (λ r. value_at r w) kept ∙ all_true S.worlds w b
 
   below : (w : ℕ) → w < S.worlds → slice_index classes w < count
   below w b = class_below classes count w used (omega arith)
@@ -84,9 +75,9 @@ module _ (S : Kripke) (s : IsState S) (classes chosen : List ℕ) (count : ℕ) 
       let r = stands w b in
       (classes_decide S (slice_index classes) s ordered w (slice_index chosen (slice_index classes w)) b (let k = r.world in omega arith)).0 (sym r.own)
 
-  pub quotient_choice : IsChoice S (is_marked row) (slice_index classes) chosen
+  pub quotient_choice : IsChoice S (value_at row) (slice_index classes) chosen
   quotient_choice = record {
-    each = All-from_each (λ w. (w < S.worlds) × IsTrue (is_marked row w)) chosen each_world;
+    each = All-from_each (λ w. (w < S.worlds) × IsTrue (value_at row w)) chosen each_world;
     below = λ w b k. let l = below w b in omega arith;
     onto = λ c b. (each c (omega arith)).own;
     truth = λ w b k. let z = alike w b in z.1.truth w (slice_index chosen (slice_index classes w)) z.2;
@@ -101,7 +92,7 @@ module _ (S : Kripke) (s : IsState S) (classes chosen : List ℕ) (count : ℕ) 
         (d.0, d.1, keeps d.0 (at_All (λ x. x < S.worlds) d.0 S.designated s.designated_within d.1));
   }
     where
-      each_world : (w : ℕ) → IsIn w chosen → (w < S.worlds) × IsTrue (is_marked row w)
+      each_world : (w : ℕ) → IsIn w chosen → (w < S.worlds) × IsTrue (value_at row w)
       each_world w i =
           let c = Contains-from_in w chosen i in
           let r = each c.0 (let k = c.1 in omega arith) in
@@ -114,25 +105,25 @@ module _ (S : Kripke) (s : IsState S) (classes chosen : List ℕ) (count : ℕ) 
           read (x ∷ xs) zero c l e = e
           read (x ∷ xs) (suc i) c l e = read xs i c (omega arith) e
 
-  pub quotient_contracts : (Q : Kripke) → IsState Q → ((w : ℕ) → w < S.worlds → Reached S w) → IsImage S (is_marked row) (slice_index classes) Q → Contracts S Q
+  pub quotient_contracts : (Q : Kripke) → IsState Q → ((w : ℕ) → w < S.worlds → Reached S w) → IsImage S (value_at row) (slice_index classes) Q → Contracts S Q
   quotient_contracts Q q reached m =
       contracts_from_ranks S Q (slice_index classes) s q reached ordered
-      (image_as S Q s (is_marked row) (λ _. true) (slice_index classes) (slice_index classes) keeps (λ w b. refl) m)
+      (image_as S Q s (value_at row) (λ _. true) (slice_index classes) (slice_index classes) keeps (λ w b. refl) m)
 
 -- the reached part
-module _ (S P : Kripke) (s : IsState S) (p : IsState P) (row : List Bool) (reached : (w : ℕ) → w < S.worlds → IsTrue (is_marked row w) → Reached S w)
-    (unreached : (w : ℕ) → Reached S w → IsTrue (is_marked row w)) (m : IsRestriction S row P) where
+module _ (S P : Kripke) (s : IsState S) (p : IsState P) (row : List Bool) (reached : (w : ℕ) → w < S.worlds → IsTrue (value_at row w) → Reached S w)
+    (unreached : (w : ℕ) → Reached S w → IsTrue (value_at row w)) (m : IsRestriction S row P) where
   pub reached_part : Bisimilar S P
-  reached_part = part_bisimilar S P (is_marked row) (kept_before row) s p m reached unreached (λ w v a b k l e. kept_apart row S.worlds w v a b k l e)
+  reached_part = part_bisimilar S P (value_at row) (kept_before row) s p m reached unreached (λ w v a b k l e. kept_apart row S.worlds w v a b k l e)
 
   pub part_is_reached : (c : ℕ) → c < P.worlds → Reached P c
-  part_is_reached = part_reached S P (is_marked row) (kept_before row) s p m reached unreached (λ w v a b k l e. kept_apart row S.worlds w v a b k l e)
+  part_is_reached = part_reached S P (value_at row) (kept_before row) s p m reached unreached (λ w v a b k l e. kept_apart row S.worlds w v a b k l e)
 
   pub contracts_part : (C : Kripke) → Contracts P C → Contracts S C
-  contracts_part C c = record { canonical = c.canonical; bisimilar = bisimilar_trans reached_part c.bisimilar }
+  contracts_part C c = record { valid = c.valid; canonical = c.canonical; bisimilar = bisimilar_trans reached_part c.bisimilar }
 
 -- some designated world is reached
-pub keeps_designated : (S : Kripke) → IsState S → (row : List Bool) → ((w : ℕ) → Reached S w → IsTrue (is_marked row w)) → KeepsDesignated S row
+pub keeps_designated : (S : Kripke) → IsState S → (row : List Bool) → ((w : ℕ) → Reached S w → IsTrue (value_at row w)) → KeepsDesignated S row
 keeps_designated S s row unreached = let d = some_element S.designated s.some_designated in (d.0, d.1, unreached d.0 (start d.1))
 
 reached_within : (S : Kripke) → IsState S → (w : ℕ) → Reached S w → w < S.worlds
@@ -140,18 +131,14 @@ reached_within S s w (start i) = at_All (λ x. x < S.worlds) w S.designated s.de
 reached_within S s w (step a u r i) = (links_within S s a u w i).1
 
 -- the rows of `reachable` in both directions
-pub from_row : (S : Kripke) (row : List Bool) → ((w : ℕ) → w < S.worlds → IsTrue (is_marked row w) ↔ Reached S w) → (w : ℕ) → w < S.worlds → IsTrue (is_marked row w) → Reached S w
+pub from_row : (S : Kripke) (row : List Bool) → ((w : ℕ) → w < S.worlds → IsTrue (value_at row w) ↔ Reached S w) → (w : ℕ) → w < S.worlds → IsTrue (value_at row w) → Reached S w
 from_row S row h w b = (h w b).0
 
-pub to_row : (S : Kripke) → IsState S → (row : List Bool) → ((w : ℕ) → w < S.worlds → IsTrue (is_marked row w) ↔ Reached S w) → (w : ℕ) → Reached S w → IsTrue (is_marked row w)
+pub to_row : (S : Kripke) → IsState S → (row : List Bool) → ((w : ℕ) → w < S.worlds → IsTrue (value_at row w) ↔ Reached S w) → (w : ℕ) → Reached S w → IsTrue (value_at row w)
 to_row S s row h w r = (h w (reached_within S s w r)).1 r
 
--- any other contraction is this one
-pub only_one : (S C D : Kripke) → IsState C → Contracts S C → IsState D → Contracts S D → D ≡ C
-only_one S C D c f d g = unique D C d c g.canonical f.canonical (bisimilar_trans (bisimilar_sym g.bisimilar) f.bisimilar)
-
-pub own_contraction : (S C : Kripke) → IsState S → IsState C → Contracts S C → IsCanonical S → C ≡ S
-own_contraction S C s c f h = (canonical_is_own_contraction S C s c f).0 h
+pub own_contraction : (S C : Kripke) → IsState S → Contracts S C → IsCanonical S → C ≡ S
+own_contraction S C s f h = (canonical_is_own_contraction S C s f).0 h
 
 pub both_ok : {X Y : Type 0} (r : Result X Y) (P Q R : X → Type 0) → ((x : X) → P x → Q x → R x) → IfOk r P → IfOk r Q → IfOk r R
 both_ok (Ok x) P Q R f p q = f x p q

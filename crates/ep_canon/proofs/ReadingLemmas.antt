@@ -6,16 +6,12 @@ use Rattle.std.proofs.lemmas.Bool.{false≢true, ltb-true, lt-ltb}
 use Rattle.std.proofs.lemmas.List.{get_or_past, nil_from_length}
 use Rattle.std.proofs.lemmas.Slice.Eq.{bytes_eq-Decides}
 use Rattle.ep_theory.specs.Rising.{IsIn}
-use Rattle.ep_theory.specs.Numbers.{has_number}
+use Rattle.ep_logic.specs.Numbers.{has_number}
 use Rattle.ep_theory.specs.Kripke.{Kripke, IsState, links_of, truth_of, successors}
 use Rattle.ep_theory.specs.Bisimulation.{BisimilarWorlds}
 use Rattle.ep_theory.specs.Canonical.{IsCanonical}
-use Rattle.ep_theory.proofs.Bools.{and_parts, and_whole}
-use Rattle.ep_theory.proofs.Canonical.{apart_in_canonical}
-use Rattle.ep_theory.proofs.Exists.{some_element}
-use Rattle.ep_theory.proofs.Filters.{All-at}
-use Rattle.ep_theory.proofs.Lists.{at_All}
-use Rattle.ep_theory.proofs.NumbersLemmas.{get_or-table, in_numbers, to_has_number}
+use Rattle.ep_theory.proofs.CallerLemmas.{and_parts, and_whole, apart_in_canonical, some_element, All-at, at_All, in_numbers, to_has_number}
+use Rattle.ep_logic.proofs.CallerLemmas.{get_or-table}
 use Rattle.ep_canon.specs.declared.reading.Sizes.{Sizes}
 use Rattle.ep_canon.specs.Bytes.{row_size, bytes_of}
 use Rattle.ep_canon.specs.Reading.{HasBytes, AreSmall, AreAlike, AreSizes, bit_from, agent_size, links_begin, designated_begin, whole_length, told_row, told_designated, told}

@@ -5,7 +5,7 @@ use Rattle.std.specs.List.{AllByRecursion, flat_map}
 use Rattle.std.proofs.Math.Nat.{pow-succ'}
 use Rattle.std.proofs.lemmas.List.{get_or-take, get_or-drop, get_or_append_left, get_or-append-add, length-append, length-take, length-drop}
 use Rattle.std.proofs.lemmas.Nat.Bits.{bit_at_lowest, bit_at-suc, bit_at-zero}
-use Rattle.ep_theory.proofs.NumbersLemmas.{length-table, get_or-table}
+use Rattle.ep_logic.proofs.CallerLemmas.{length-table, get_or-table}
 use Rattle.ep_canon.specs.Bytes.{number_of, row_byte, row_size, row_bytes}
 
 -- one more digit

@@ -6,14 +6,12 @@ use Rattle.std.proofs.lemmas.List.{length-append, length-map}
 use Rattle.std.proofs.lemmas.List.Sums.{sum_by-cons}
 use Rattle.std.proofs.lemmas.Nat.{mul-le}
 use Rattle.ep_theory.specs.Rising.{IsRising}
-use Rattle.ep_theory.specs.Numbers.{numbers_where, pairs_within, pairs_where, has_number}
+use Rattle.ep_logic.specs.Numbers.{numbers_where, pairs_within, pairs_where, has_number}
 use Rattle.ep_theory.specs.Kripke.{IsState, pair_cmp, links_of, successors}
-use Rattle.ep_theory.proofs.Filters.{All-map}
-use Rattle.ep_theory.proofs.Lists.{All-from_each, from_successors, IsIn-successors}
-use Rattle.ep_theory.proofs.NumbersLemmas.{length-table, get_or-table, from_table, in_numbers, from_numbers, in_pairs, from_pairs, rising_numbers, rising_pairs, to_has_number, from_has_number}
-use Rattle.ep_kripke.specs.Rows.{row_pairs, all_pairs}
+use Rattle.ep_theory.proofs.CallerLemmas.{All-map, All-from_each, from_successors, IsIn-successors, from_table, in_numbers, from_numbers, in_pairs, from_pairs, rising_numbers, rising_pairs, to_has_number, from_has_number, get_or-pairs, row_pairs-chosen}
+use Rattle.ep_logic.proofs.CallerLemmas.{length-table, get_or-table}
+use Rattle.ep_theory.specs.Relations.{row_pairs, all_pairs}
 use Rattle.ep_kripke.specs.States.{IsBounded, HaveRows}
-use Rattle.ep_kripke.proofs.RowsLemmas.{get_or-pairs, row_pairs-chosen}
 use Rattle.ep_canon.specs.declared.reading.Sizes.{Sizes}
 use Rattle.ep_canon.specs.Bytes.{row_size}
 use Rattle.ep_canon.specs.Reading.{AreSmall, bit_from, agent_size, links_begin, designated_begin, told_row, told_truth, told_numbers, told_rows, told_relations, told_designated, told}

@@ -4,10 +4,9 @@ use Rattle.std.specs.List.{flat_map}
 use Rattle.std.proofs.lemmas.Bool.{ne_eqb}
 use Rattle.std.proofs.lemmas.Bool.Decides.{eqb_tells}
 use Rattle.std.proofs.lemmas.List.{flat_map_more, take_more, get_or-set_same, get_or-set_other, length-set}
-use Rattle.ep_theory.specs.Numbers.{has_number, table}
-use Rattle.ep_theory.proofs.Lists.{test_itself}
-use Rattle.ep_theory.proofs.NumbersLemmas.{length-table, get_or-table}
-use Rattle.ep_theory.proofs.Unique.{same_places}
+use Rattle.ep_logic.specs.Numbers.{has_number, table}
+use Rattle.ep_theory.proofs.CallerLemmas.{test_itself, same_places}
+use Rattle.ep_logic.proofs.CallerLemmas.{length-table, get_or-table}
 use Rattle.ep_canon.specs.Bytes.{members}
 
 pub table_more : {X : Type 0} (f : ℕ → X) (n m : ℕ) → m ≡ n + 1 → table f m ≡ table f n ++ f n ∷ []

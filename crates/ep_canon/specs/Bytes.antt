@@ -1,7 +1,9 @@
 -- The canonical bytes of a state. This project's own.
 use Rattle.std.specs.Prelude.{ℕ, ◌+◌, ◌*◌, ◌/◌, ◌%◌, ◌≤◌, Bool, List, [], ◌∷◌, ◌++◌, take, drop, length, if◌then◌else◌}
 use Rattle.std.specs.List.{flat_map}
-use Rattle.ep_theory.specs.Numbers.{has_number, table}
+use Rattle.ep_logic.specs.declared.limits.TheConstants.{MOST_AGENTS, MOST_ATOMS}
+use Rattle.ep_canon.specs.declared.limits.TheConstants.{MOST_CONTRACTED_WORLDS}
+use Rattle.ep_logic.specs.Numbers.{has_number, table}
 use Rattle.ep_theory.specs.Kripke.{Kripke, successors}
 
 -- the number with these binary digits, the least first
@@ -43,6 +45,6 @@ bytes_of S = header S
 
 -- the limits of a canonical state that has bytes
 pub record IsSmall (S : Kripke) : Type 0 where
-  pub worlds : S.worlds ≤ 4096
-  pub agents : S.agents ≤ 8
-  pub atoms : S.atoms ≤ 256
+  pub worlds : S.worlds ≤ MOST_CONTRACTED_WORLDS
+  pub agents : S.agents ≤ MOST_AGENTS
+  pub atoms : S.atoms ≤ MOST_ATOMS

@@ -1,7 +1,9 @@
 -- The state that bytes tell, bit by bit. This project's own.
 use Rattle.std.specs.Prelude.{◌≡◌, ℕ, ◌+◌, ◌*◌, ◌/◌, ◌%◌, ◌<◌, ◌≤◌, Bool, ◌==◌, List, length, slice_index}
 use Rattle.std.specs.Int.{bit_at}
-use Rattle.ep_theory.specs.Numbers.{numbers_where, table}
+use Rattle.ep_logic.specs.declared.limits.TheConstants.{MOST_AGENTS, MOST_ATOMS}
+use Rattle.ep_canon.specs.declared.limits.TheConstants.{MOST_CONTRACTED_WORLDS}
+use Rattle.ep_logic.specs.Numbers.{numbers_where, table}
 use Rattle.ep_theory.specs.Kripke.{Kripke, IsState}
 use Rattle.ep_theory.specs.Canonical.{IsCanonical}
 use Rattle.ep_kripke.specs.States.{state_of}
@@ -42,9 +44,9 @@ whole_length s = designated_begin s + row_size s.worlds
 -- a state of these sizes has a world and is within the limits
 pub record AreSmall (s : Sizes) : Type 0 where
   pub some_world : 0 < s.worlds
-  pub worlds : s.worlds ≤ 4096
-  pub agents : s.agents ≤ 8
-  pub atoms : s.atoms ≤ 256
+  pub worlds : s.worlds ≤ MOST_CONTRACTED_WORLDS
+  pub agents : s.agents ≤ MOST_AGENTS
+  pub atoms : s.atoms ≤ MOST_ATOMS
 
 -- there are two worlds, and neither an agent nor an atom that tells them apart
 pub record AreAlike (s : Sizes) : Type 0 where

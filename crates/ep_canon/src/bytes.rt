@@ -2,6 +2,7 @@
 
 ghost use Rattle.std.specs.Prelude.{◌≡◌, ◌≤◌, ◌<◌, ◌++◌, false, All, length, slice_index_or, if◌then◌else◌, IfOk, OnOk};
 ghost use Rattle.std.specs.List.{flat_map};
+ghost use Rattle.ep_canon.specs.declared.limits.TheConstants.{MOST_CONTRACTED_WORLDS};
 ghost use Rattle.ep_theory.specs.Kripke.{IsState, links_of, truth_of};
 ghost use Rattle.ep_kripke.specs.States.{IsBounded};
 ghost use Rattle.ep_canon.specs.Bytes.{row_byte, row_bytes, members, successor_rows, header, bytes_of};
@@ -12,7 +13,7 @@ use std::alloc::Global;
 
 /// The canonical bytes of the state.
 pub fn written(alloc: Global, s: &State) -> Result<Vec<u8>, OutOfMemory>
-    requires { s.now.worlds ≤ 4096 }
+    requires { s.now.worlds ≤ MOST_CONTRACTED_WORLDS }
     ensures value { IfOk result (λ bytes. bytes.items ≡ bytes_of s.now) }
     ensures valid { IsState s.now }
     ensures bounded { IsBounded s.now }
@@ -25,7 +26,7 @@ pub fn written(alloc: Global, s: &State) -> Result<Vec<u8>, OutOfMemory>
 }
 
 fn header_bytes(alloc: Global, s: &State) -> Result<Vec<u8>, OutOfMemory>
-    requires { s.now.worlds ≤ 4096 }
+    requires { s.now.worlds ≤ MOST_CONTRACTED_WORLDS }
     ensures value { IfOk result (λ bytes. bytes.items ≡ header s.now) }
     ensures valid { IsState s.now }
     ensures bounded { IsBounded s.now }
@@ -83,8 +84,10 @@ fn put_successors(
     ensures { OnOk result (bytes.new.items ≡
         bytes.old.items ++ flat_map row_bytes (successor_rows s.now.worlds (links_of s.now a.n))) }
 {
+    let mut targets = Vec::new(alloc);
     for w in 0..s.worlds() {
-        let row = row_of(alloc, s.targets(a, WorldId { n: w }), s.worlds())?;
+        s.read_targets(a, WorldId { n: w }, &mut targets)?;
+        let row = row_of(alloc, &targets, s.worlds())?;
         put_row(&row, bytes)?;
     }
     Ok(())

@@ -1,10 +1,11 @@
 // Canonical states and contraction.
 
 ghost use Rattle.std.specs.Prelude.{◌≡◌, ℕ, ◌≤◌, ◌↔◌, IfErr, IfOk, IsTrue};
+ghost use Rattle.ep_canon.specs.declared.limits.TheConstants.{MOST_CONTRACTED_WORLDS};
 ghost use Rattle.ep_logic.specs.declared.formula.Node.{Node};
 ghost use Rattle.ep_theory.specs.Rising.{IsIn};
 ghost use Rattle.ep_theory.specs.Kripke.{Kripke, IsState};
-ghost use Rattle.ep_theory.specs.Truth.{Truth};
+ghost use Rattle.ep_theory.specs.Truth.{Truth, Satisfies};
 ghost use Rattle.ep_theory.specs.Bisimulation.{Bisimilar};
 ghost use Rattle.ep_theory.specs.Canonical.{IsCanonical, Contracts};
 ghost use Rattle.ep_canon.specs.Bytes.{bytes_of, IsSmall};
@@ -35,19 +36,20 @@ impl Model for Canon {
     ghost use Rattle.std.specs.Prelude.{◌≤◌};
     ghost use Rattle.ep_theory.specs.Kripke.{Kripke};
     ghost use Rattle.ep_theory.specs.Canonical.{IsCanonical};
+    ghost use Rattle.ep_canon.specs.declared.limits.TheConstants.{MOST_CONTRACTED_WORLDS};
 
     ghost Value = { Kripke };
 
     ghost view = { λ c. c.state };
 
-    ghost invariant = { λ c. IsCanonical c.state × (c.state.worlds ≤ 4096) };
+    ghost invariant = { λ c. IsCanonical c.state × (c.state.worlds ≤ MOST_CONTRACTED_WORLDS) };
 }
 
 impl Canon {
     pub fn state(&self) -> &State
         ensures value { result.now ≡ self.now }
         ensures canonical { IsCanonical self.now }
-        ensures small { self.now.worlds ≤ 4096 }
+        ensures small { self.now.worlds ≤ MOST_CONTRACTED_WORLDS }
     {
         &self.state
     }
@@ -92,17 +94,16 @@ impl Canon {
 
 /// The contraction of the state: the one canonical state that is bisimilar to it.
 pub fn contract(alloc: Global, s: &State) -> Result<Canon, OutOfMemory>
-    requires { s.now.worlds ≤ 4096 }
+    requires { s.now.worlds ≤ MOST_CONTRACTED_WORLDS }
     ensures contraction { IfOk result (Contracts s.now) }
     ensures valid { IfOk result IsState }
 
     // No other canonical state is bisimilar to it.
-    ensures only { IfOk result (λ c. (D : Kripke) → IsState D → Contracts s.now D → D ≡ c) }
+    ensures only { IfOk result (λ c. (D : Kripke) → Contracts s.now D → D ≡ c) }
     ensures idempotent { IfOk result (λ c. IsCanonical s.now → c ≡ s.now) }
 
     // The same formulas are true at all, and at some, designated worlds.
-    ensures all { IfOk result (λ c. (f : Node) →
-        ((w : ℕ) → IsIn w s.now.designated → Truth s.now w f) ↔ ((v : ℕ) → IsIn v c.designated → Truth c v f)) }
+    ensures all { IfOk result (λ c. (f : Node) → Satisfies s.now f ↔ Satisfies c f) }
     ensures some { IfOk result (λ c. (f : Node) →
         ((w : ℕ) × IsIn w s.now.designated × Truth s.now w f) ↔ ((v : ℕ) × IsIn v c.designated × Truth c v f)) }
 {
@@ -115,8 +116,8 @@ pub fn contract(alloc: Global, s: &State) -> Result<Canon, OutOfMemory>
 
 /// Whether the states are bisimilar. Their numbers of agents and of atoms may differ.
 pub fn same(alloc: Global, s: &State, t: &State) -> Result<bool, OutOfMemory>
-    requires first { s.now.worlds ≤ 4096 }
-    requires second { t.now.worlds ≤ 4096 }
+    requires first { s.now.worlds ≤ MOST_CONTRACTED_WORLDS }
+    requires second { t.now.worlds ≤ MOST_CONTRACTED_WORLDS }
     ensures { IfOk result (λ b. IsTrue b ↔ Bisimilar s.now t.now) }
 {
     let first = contract(alloc, s)?;

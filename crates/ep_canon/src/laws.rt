@@ -13,6 +13,5 @@ pub fn bytes_decide()
 
 /// The contractions of states have equal bytes exactly if the states are bisimilar.
 pub fn bytes_of_contractions_decide()
-    ensures { (S R C D : Kripke) → IsState C → IsState D → Contracts S C → Contracts R D →
-        (bytes_of C ≡ bytes_of D) ↔ Bisimilar S R }
+    ensures { (S R C D : Kripke) → Contracts S C → Contracts R D → (bytes_of C ≡ bytes_of D) ↔ Bisimilar S R }
 {}

@@ -1,6 +1,7 @@
 // The quotient of a state by bisimilarity.
 
 ghost use Rattle.std.specs.Prelude.{◌≡◌, ℕ, ◌<◌, ◌≤◌, length, replicate, true, slice_index, IfOk};
+ghost use Rattle.ep_kripke.specs.declared.limits.TheConstants.{MOST_WORLDS};
 ghost use Rattle.ep_theory.specs.Kripke.{IsState};
 ghost use Rattle.ep_theory.specs.Canonical.{Reached, Contracts};
 ghost use Rattle.ep_theory.specs.Ranks.{RanksAt};
@@ -39,7 +40,7 @@ fn all_kept(alloc: Global, count: u32) -> Result<Bits, OutOfMemory>
 // A world of each class.
 fn one_of_each(alloc: Global, classes: &[u32], count: u32) -> Result<Vec<u32>, OutOfMemory>
     requires used { AreNumbers classes.now count }
-    requires few { length classes.now ≤ 65536 }
+    requires few { length classes.now ≤ MOST_WORLDS }
     ensures long { IfOk result (λ v. length v.items ≡ count) }
     ensures each { IfOk result (λ v. (c : ℕ) → c < count → StandFor classes.now v.items c) }
 {

@@ -1,6 +1,7 @@
 // The state that bytes tell, bit by bit.
 
 ghost use Rattle.std.specs.Prelude.{◌≡◌, ◌+◌, ◌*◌, ◌/◌, ◌<◌, ◌≤◌, ◌↔◌, length, IsTrue, IfErr, IfOk};
+ghost use Rattle.ep_canon.specs.declared.limits.TheConstants.{MOST_CONTRACTED_WORLDS};
 ghost use Rattle.ep_theory.specs.Kripke.{IsState};
 ghost use Rattle.ep_canon.specs.Bytes.{row_size};
 ghost use Rattle.ep_canon.specs.Reading.{AreAlike, AreSizes, AreSmall, IsRefused, agent_size, bit_from, designated_begin, links_begin, told, told_numbers, told_relations, told_row, told_rows, told_truth, whole_length};
@@ -8,6 +9,7 @@ ghost use Rattle.ep_canon.specs.Reading.{AreAlike, AreSizes, AreSmall, IsRefused
 use ep_kripke::{Rows, State};
 use ep_logic::{Bits, List, OutOfMemory};
 use std::alloc::Global;
+use std::fmt;
 
 /// Why bytes were not read.
 #[derive(Clone, Copy, Debug, PartialEq, Eq)]
@@ -16,6 +18,17 @@ pub enum CanonError {
     NotCanonical,
     OutOfMemory,
 }
+
+impl fmt::Display for CanonError {
+    fn fmt<W: fmt::Write>(&self, f: &mut fmt::Formatter<W>) -> fmt::Result {
+        match self {
+            CanonError::NotCanonical => write!(f, "no canonical state"),
+            CanonError::OutOfMemory => write!(f, "out of memory"),
+        }
+    }
+}
+
+impl std::error::Error for CanonError {}
 
 impl From<OutOfMemory> for CanonError {
     ghost use Rattle.std.specs.Prelude.{◌≡◌};
@@ -127,7 +140,15 @@ pub fn read_state(alloc: Global, bytes: &[u8], sizes: &Sizes) -> Result<State, C
     let truth = truths(alloc, bytes, sizes)?;
     let relations = relations(alloc, bytes, sizes)?;
     let designated = List::from_vec(designated);
-    Ok(State::from_rows(sizes.agents, sizes.atoms, truth, relations, designated))
+    let state = State::from_rows(
+        alloc,
+        sizes.agents,
+        sizes.atoms,
+        truth,
+        relations,
+        designated,
+    )?;
+    Ok(state)
 }
 
 fn truths(alloc: Global, bytes: &[u8], sizes: &Sizes) -> Result<List<Bits>, OutOfMemory>
@@ -157,7 +178,7 @@ fn relations(alloc: Global, bytes: &[u8], sizes: &Sizes) -> Result<List<Rows>, O
 
 // The successors of each world, by rows that begin at a byte.
 fn rows(alloc: Global, bytes: &[u8], at: usize, worlds: u32) -> Result<Rows, OutOfMemory>
-    requires small { worlds ≤ 4096 }
+    requires small { worlds ≤ MOST_CONTRACTED_WORLDS }
     requires inside { at + worlds * row_size worlds ≤ length bytes.now }
     ensures { IfOk result (λ rows. rows ≡ told_rows bytes.now at worlds) }
 {

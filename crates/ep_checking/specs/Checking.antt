@@ -1,8 +1,8 @@
 -- What `check` answers for its ground task.
 use Rattle.std.specs.Prelude.{◌≡◌, length}
-use Rattle.ep_syntax.specs.Layout.{layout_of}
+use Rattle.ep_layout.specs.Layout.{layout_of}
 use Rattle.ep_types.specs.Tasks.{declarations}
-use Rattle.ep_parts.specs.Task.{GroundTask}
+use Rattle.ep_ground.specs.Task.{GroundTask}
 use Rattle.ep_answer.specs.declared.answer.Answer.TheVariants.{Checked}
 use Rattle.ep_answer.specs.declared.answer.Counts.{Counts}
 use Rattle.ep_reading.specs.Served.{Outcome, answers}

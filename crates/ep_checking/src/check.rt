@@ -13,8 +13,8 @@ use ep_answer::{Answer, Counts, Stop};
 use ep_base::OutOfMemory;
 use ep_ground::Task;
 use ep_io::Library;
+use ep_layout::print_task;
 use ep_reading::task_file;
-use ep_syntax::print_task;
 use std::alloc::Global;
 
 fn counts(task: &Task) -> Counts

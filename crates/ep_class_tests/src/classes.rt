@@ -56,18 +56,20 @@ fn whether_a_designated_world_is_kept(rt: HostRuntime) -> Result<(), Fail> {
 }
 
 // Worlds 1 and 2 of three, under the numbers 0 and 1.
-fn check_part(rt: &impl Abort, part: &State) {
+fn check_part(rt: &impl Abort, alloc: Global, part: &State) -> Result<(), OutOfMemory> {
     assert_eq!(rt;
         (part.worlds(), part.agents(), part.atoms(), part.links()),
         (2, 1, 1, 2)
     );
     assert_eq!(rt; part.designated(), [1].as_slice());
+    let mut targets = Vec::new(alloc);
     for w in 0..2 {
         let holds = part.holds_atom(WorldId { n: w }, AtomId { n: 0 });
         assert_eq!(rt; holds, w == 1);
-        let targets = part.targets(AgentId { n: 0 }, WorldId { n: w });
-        assert_eq!(rt; targets, [1].as_slice());
+        part.read_targets(AgentId { n: 0 }, WorldId { n: w }, &mut targets)?;
+        assert_eq!(rt; targets.as_slice(), [1].as_slice());
     }
+    Ok(())
 }
 
 fn kept_part(rt: &impl Abort, alloc: Global, s: &State, keep: &Bits) -> Result<State, OutOfMemory> {
@@ -83,7 +85,7 @@ fn the_part_that_is_kept(rt: HostRuntime) -> Result<(), Fail> {
     keep.set(1, true);
     keep.set(2, true);
     let part = kept_part(&rt, rt.alloc(), &s, &keep)?;
-    check_part(&rt, &part);
+    check_part(&rt, rt.alloc(), &part)?;
     Ok(())
 }
 

@@ -1,7 +1,7 @@
 -- What a command answers, by its words.
-use Rattle.std.proofs.Common.{◌≡◌, ◌≤◌, ℕ, List, Result, inl, inr, sym, subst, ◌∙◌, Bool}
+use Rattle.std.proofs.Common.{◌≡◌, ◌≤◌, ℕ, List, Result, inl, inr, sym, subst, ◌∙◌}
 use Rattle.ep_logic.specs.declared.ids.ActionId.{ActionId}
-use Rattle.ep_parts.specs.Task.{GroundTask}
+use Rattle.ep_ground.specs.Task.{GroundTask}
 use Rattle.ep_io.specs.Library.{LibraryState}
 use Rattle.ep_trial.specs.TrialText.{trial_text}
 use Rattle.ep_words.specs.declared.command.Command.{Command}
@@ -18,10 +18,10 @@ use Rattle.ep_checking.specs.Checking.{Checks}
 use Rattle.ep_planning.specs.Trials.{Tries}
 use Rattle.ep_reading.specs.Served.{Outcome, TaskFile, TaskRead}
 use Rattle.ep_reading.specs.Steps.{OnlyFile, Serves, Tells}
-use Rattle.ep_reading.proofs.Lift.{Serves-more}
-use Rattle.ep_planning.proofs.GuidedLemmas.{serves_told_guide}
-use Rattle.ep_planning.proofs.TrialLemmas.{trial_is_behind}
-use Rattle.ep_words.specs.declared.command.Bounds.{Bounds}
+use Rattle.ep_reading.proofs.CallerLemmas.{Serves-more}
+use Rattle.ep_planning.proofs.CallerLemmas.{serves_told_guide, trial_is_behind}
+use Rattle.ep_bounds.specs.declared.bounds.Bounds.{Bounds}
+use Rattle.ep_bounds.specs.declared.bounds.Mode.{Mode}
 use Rattle.ep_words.specs.declared.command.Command.TheVariants.{Plan, Check}
 
 -- ---- the commands with one plan
@@ -105,13 +105,13 @@ serves_same words guides file one two old new r k is e p q h = subst (ServesComm
 
 -- ---- plan and trial
 
-pub serves_plan : (words : List (List ℕ)) (guides : ℕ) (b : Bounds) (guide : ℕ) (first : Bool) (file : List ℕ) (old new : LibraryState) (r : Result Answer Stop) (k : Command) → k ≡ Plan b guide first → file ≡ word_at words 1
-    → Serves (λ files. Guided guides guide (TaskFile files file (Plans b first))) (OnlyFile Task file) (guides ≤ guide) old new r
+pub serves_plan : (words : List (List ℕ)) (guides : ℕ) (b : Bounds) (guide : ℕ) (mode : Mode) (file : List ℕ) (old new : LibraryState) (r : Result Answer Stop) (k : Command) → k ≡ Plan b guide mode → file ≡ word_at words 1
+    → Serves (λ files. Guided guides guide (TaskFile files file (Plans b mode))) (OnlyFile Task file) (guides ≤ guide) old new r
     → Serves (λ files. CommandWork files words guides k) (Names words k) (LacksGuide guides k) old new r
-serves_plan words guides b guide first file old new r k is e h =
+serves_plan words guides b guide mode file old new r k is e h =
     subst (λ (k : Command). Serves (λ files. CommandWork files words guides k) (Names words k) (LacksGuide guides k) old new r) (sym is)
-    (Serves-more (λ files. Guided guides guide (TaskFile files file (Plans b first))) (λ files. CommandWork files words guides (Plan b guide first)) (OnlyFile Task file) (Names words (Plan b guide first)) (guides ≤ guide) old new r
-    (λ files o w. subst (λ f. Guided guides guide (TaskFile files f (Plans b first)) o) e w) (λ s name p. subst (λ t. Names words (Plan b guide first) t name) (sym p.0) (p.1 ∙ e)) h)
+    (Serves-more (λ files. Guided guides guide (TaskFile files file (Plans b mode))) (λ files. CommandWork files words guides (Plan b guide mode)) (OnlyFile Task file) (Names words (Plan b guide mode)) (guides ≤ guide) old new r
+    (λ files o w. subst (λ f. Guided guides guide (TaskFile files f (Plans b mode)) o) e w) (λ s name p. subst (λ t. Names words (Plan b guide mode) t name) (sym p.0) (p.1 ∙ e)) h)
 
 pub serves_trial : (words : List (List ℕ)) (guides n : ℕ) (library : LibraryState) (r : Result Answer Stop) (k : Command) → k ≡ command.Trial n
     → Tells (Guided guides 0 (TaskRead (trial_text n) (Tries n))) r → ServesCommand words guides library library r k

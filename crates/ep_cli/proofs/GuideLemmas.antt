@@ -1,7 +1,8 @@
 -- Whether what was written rests on a guide.
-use Rattle.std.proofs.Common.{◌≡◌, ◌≤◌, ℕ, Bool, List, [], ◌∷◌, ◌++◌, Option, Some, None, drop, sym, ap, subst, ◌∙◌}
+use Rattle.std.proofs.Common.{◌≡◌, ◌≤◌, ℕ, List, [], ◌∷◌, ◌++◌, Option, Some, None, drop, sym, ap, subst, ◌∙◌}
 use Rattle.std.specs.Io.KnownBytes.{Appends}
-use Rattle.ep_words.specs.declared.command.Bounds.{Bounds}
+use Rattle.ep_bounds.specs.declared.bounds.Bounds.{Bounds}
+use Rattle.ep_bounds.specs.declared.bounds.Mode.{Mode}
 use Rattle.ep_words.specs.declared.command.Command.TheVariants.{Plan}
 use Rattle.ep_answer.specs.declared.answer.Answer.{Answer}
 use Rattle.ep_answer.specs.declared.status.Status.{Status}
@@ -11,9 +12,9 @@ use Rattle.ep_reading.specs.Guides.{AnswerNeeds, ListsACall, NeedsGuide, RestsOn
 use Rattle.ep_planning.specs.Asked.{WasAskedAt}
 
 -- the guide of the words is the command's
-pub asked_of : {G : Type 0} (count : G → ℕ) (old new : List G) (b d : Bounds) (guide other : ℕ) (first also : Bool) (N : Type 0) → Plan b guide first ≡ Plan d other also
+pub asked_of : {G : Type 0} (count : G → ℕ) (old new : List G) (b d : Bounds) (guide other : ℕ) (mode also : Mode) (N : Type 0) → Plan b guide mode ≡ Plan d other also
     → (1 ≤ b.depth → N → WasAskedAt count old new guide) → 1 ≤ d.depth → N → WasAskedAt count old new other
-asked_of count old new b d guide other first also N e f some needs =
+asked_of count old new b d guide other mode also N e f some needs =
     let bounds : b ≡ d = cc in
     let place : guide ≡ other = cc in
     subst (WasAskedAt count old new) place (f (subst (λ (x : Bounds). 1 ≤ x.depth) (sym bounds) some) needs)

@@ -10,7 +10,7 @@ use Rattle.ep_answer.specs.declared.status.Status.{Status}
 use Rattle.ep_cli.specs.Commands.{CommandWork, LacksGuide, Misuses, Names, Work}
 use Rattle.ep_reading.specs.Run.{IsAnswerOf}
 use Rattle.ep_cli.specs.Run.{IsAnswer, NamesFile}
-use Rattle.ep_reading.proofs.Lift.{IsAnswerOf-held, all_held}
+use Rattle.ep_reading.proofs.CallerLemmas.{IsAnswerOf-held, all_held}
 
 -- the words of a command are misused exactly where it asks for a guide that is not there
 command_misuse : (words : List (List ℕ)) (guides : ℕ) (command : Command) → IsCommand words command → ((other : Command) → IsCommand words other → other ≡ command) → LacksGuide guides command ↔ Misuses words guides

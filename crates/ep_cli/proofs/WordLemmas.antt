@@ -1,22 +1,23 @@
 -- The words of commands: their files, and the bounds that they give.
-use Rattle.std.proofs.Common.{ℕ, ◌≤◌, Bool, List, [], ◌∷◌, Option, Some, None, unwrap_or, IfSome, subst, sym, arith}
-use Rattle.ep_search.specs.Limits.{IsBounds}
+use Rattle.std.proofs.Common.{ℕ, ◌≤◌, List, [], ◌∷◌, Option, Some, None, unwrap_or, IfSome, subst, sym, arith}
+use Rattle.ep_bounds.specs.Bounds.{IsBounds}
+use Rattle.ep_bounds.specs.declared.bounds.Mode.{Mode}
+use Rattle.ep_bounds.specs.declared.bounds.TheConstants.{MOST_ACTIONS, MOST_STATES, MOST_WORLDS}
 use Rattle.ep_words.specs.Options.{AreOptions, no_options, and_option, IsWithin, plan_of}
 use Rattle.ep_words.specs.Options as opt
 use Rattle.ep_words.specs.Words.{IsCommand}
-use Rattle.ep_words.specs.declared.command.Bounds.{Bounds}
+use Rattle.ep_bounds.specs.declared.bounds.Bounds.{Bounds}
 use Rattle.ep_words.specs.declared.command.Command.{Command}
 use Rattle.ep_words.specs.declared.command.Command.TheVariants.{Plan}
 use Rattle.ep_words.specs.declared.options.Options.{Options}
 use Rattle.ep_words.specs.declared.options.PlanOption.{PlanOption}
 use Rattle.ep_words.specs.declared.options.PlanOption.TheVariants.{Depth, States, Worlds, Guide, First}
-use Rattle.ep_planning.specs.Planning.{search_bounds}
 
 -- the values that are given are within their limits
 record AreWithin (os : Options) : Type 0 where
-  depth : IfSome os.depth (λ n. n ≤ 1000)
-  states : IfSome os.states (λ n. (1 ≤ n) × (n ≤ 16384))
-  worlds : IfSome os.worlds (λ n. (1 ≤ n) × (n ≤ 256))
+  depth : IfSome os.depth (λ n. n ≤ MOST_ACTIONS)
+  states : IfSome os.states (λ n. (1 ≤ n) × (n ≤ MOST_STATES))
+  worlds : IfSome os.worlds (λ n. (1 ≤ n) × (n ≤ MOST_WORLDS))
 
 one_within : (os : Options) (o : PlanOption) → IsWithin o → AreWithin os → AreWithin (and_option os o)
 one_within os (Depth n) w h = record { depth = w; states = h.states; worlds = h.worlds }
@@ -34,19 +35,19 @@ or_default None d P h p = p
 or_default (Some n) d P h p = h
 
 abbrev bounds_in : Command → Bounds → Bounds
-bounds_in (Plan b guide first) other = b
+bounds_in (Plan b guide mode) other = b
 bounds_in _ other = other
 
-pub plan_within : (words : List (List ℕ)) (b : Bounds) (guide : ℕ) (first : Bool) → IsCommand words (Plan b guide first) → IsBounds (search_bounds b)
-plan_within [] b guide first h = absurd h
-plan_within (verb ∷ rest) b guide first h =
+pub plan_within : (words : List (List ℕ)) (b : Bounds) (guide : ℕ) (mode : Mode) → IsCommand words (Plan b guide mode) → IsBounds b
+plan_within [] b guide mode h = absurd h
+plan_within (verb ∷ rest) b guide mode h =
     let p = h.1 in
     let w = all_within p.options no_options p.all p.are_options (record { depth = tt; states = tt; worlds = tt }) in
-    let states = or_default p.all.states 1000 (λ n. (1 ≤ n) × (n ≤ 16384)) w.states (omega arith, omega arith) in
-    let limits : IsBounds (search_bounds (bounds_in (plan_of p.all) b)) = record {
-      depth = or_default p.all.depth 8 (λ n. n ≤ 1000) w.depth (omega arith);
+    let states = or_default p.all.states 1000 (λ n. (1 ≤ n) × (n ≤ MOST_STATES)) w.states (omega arith, omega arith) in
+    let limits : IsBounds (bounds_in (plan_of p.all) b) = record {
+      depth = or_default p.all.depth 8 (λ n. n ≤ MOST_ACTIONS) w.depth (omega arith);
       some_state = states.0;
       states = states.1;
-      worlds = (or_default p.all.worlds 256 (λ n. (1 ≤ n) × (n ≤ 256)) w.worlds (omega arith, omega arith)).1;
+      worlds = (or_default p.all.worlds 256 (λ n. (1 ≤ n) × (n ≤ MOST_WORLDS)) w.worlds (omega arith, omega arith)).1;
     } in
-    subst (λ c. IsBounds (search_bounds (bounds_in c b))) (sym p.makes) limits
+    subst (λ c. IsBounds (bounds_in c b)) (sym p.makes) limits

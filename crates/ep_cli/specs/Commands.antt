@@ -24,8 +24,8 @@ word_at words n = slice_index_or words n []
 
 -- the work of a command, with so many guides
 abbrev pub CommandWork : FileMap → List (List ℕ) → ℕ → Command → Outcome → Type 0
-CommandWork files words guides (Plan bounds guide first) outcome =
-    Guided guides guide (TaskFile files (word_at words 1) (Plans bounds first)) outcome
+CommandWork files words guides (Plan bounds guide mode) outcome =
+    Guided guides guide (TaskFile files (word_at words 1) (Plans bounds mode)) outcome
 CommandWork files words guides Validate outcome = PlanWork files (word_at words 1) (word_at words 2) Validates outcome
 CommandWork files words guides Eval outcome = PlanWork files (word_at words 1) (word_at words 2) (Evals (word_at words 3)) outcome
 CommandWork files words guides State outcome = PlanWork files (word_at words 1) (word_at words 2) States outcome
@@ -57,7 +57,7 @@ NamesTwo words subject name = ⊥
 
 -- the command of the words names this file, and for what
 abbrev pub Names : List (List ℕ) → Command → Subject → List ℕ → Type 0
-Names words (Plan bounds guide first) the.Task name = name ≡ word_at words 1
+Names words (Plan bounds guide mode) the.Task name = name ≡ word_at words 1
 Names words Check the.Task name = name ≡ word_at words 1
 Names words Validate subject name = NamesOne words subject name
 Names words Eval subject name = NamesOne words subject name
@@ -70,7 +70,7 @@ Names words command subject name = ⊥
 
 -- the command asks for a guide that is not there
 abbrev pub LacksGuide : ℕ → Command → Type 0
-LacksGuide guides (Plan bounds guide first) = guides ≤ guide
+LacksGuide guides (Plan bounds guide mode) = guides ≤ guide
 LacksGuide guides (Trial n) = guides ≤ 0
 LacksGuide guides command = ⊥
 

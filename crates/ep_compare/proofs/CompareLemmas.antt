@@ -2,7 +2,7 @@
 use Rattle.std.proofs.Common.{ℕ, List, refl, inl, inr, Result, Err}
 use Rattle.ep_logic.specs.declared.ids.ActionId.{ActionId}
 use Rattle.ep_theory.specs.Kripke.{Kripke}
-use Rattle.ep_parts.specs.Task.{GroundTask}
+use Rattle.ep_ground.specs.Task.{GroundTask}
 use Rattle.ep_answer.specs.declared.answer.Answer.{Answer}
 use Rattle.ep_answer.specs.declared.answer.Answer.TheVariants.{Bisimilar, Different}
 use Rattle.ep_answer.specs.declared.cause.Subject.{Subject}
@@ -11,7 +11,7 @@ use Rattle.ep_answer.specs.declared.status.Status.{Status}
 use Rattle.ep_answer.specs.declared.status.Status.TheVariants as done
 use Rattle.ep_compare.specs.Comparing.{Compares}
 use Rattle.ep_reading.specs.Served.{Answers, answers, Outcome}
-use Rattle.ep_reading.proofs.Told.{IsBehind, other_is_behind, answers_are}
+use Rattle.ep_reading.proofs.CallerLemmas.{IsBehind, other_is_behind, answers_are, Serves-more, Ran-behind, Ran-weaker, ran_is_behind, tells_is_served}
 use Rattle.ep_theory.specs.Bisimulation as theory
 use Rattle.ep_io.specs.Library.{FileMap, LibraryState}
 use Rattle.ep_plan.specs.Runs.{RunUnder}
@@ -20,9 +20,6 @@ use Rattle.ep_answer.specs.declared.answer.Stop.{Stop}
 use Rattle.ep_answer.specs.declared.run_stop.Whose.TheVariants.{First, Second}
 use Rattle.ep_reading.specs.PlanFile.{Ran, run_size}
 use Rattle.ep_reading.specs.Steps.{Serves, StopsBy, nothing_behind}
-use Rattle.ep_reading.proofs.Lift.{Serves-more}
-use Rattle.ep_reading.proofs.PlanFileLemmas.{Ran-behind, Ran-weaker, ran_is_behind}
-use Rattle.ep_reading.proofs.Behind.{tells_is_served}
 
 pub compares_is_behind : (S R : Kripke) (status : Status) (text : List ℕ) → Compares S R (Answers status text) → IsBehind status text
 unfolding Compares

@@ -2,7 +2,7 @@
 use Rattle.std.specs.Prelude.{◌≡◌, ◌⊎◌, ℕ, List}
 use Rattle.ep_theory.specs.Bisimulation as theory
 use Rattle.ep_theory.specs.Kripke.{Kripke}
-use Rattle.ep_parts.specs.Task.{GroundTask}
+use Rattle.ep_ground.specs.Task.{GroundTask}
 use Rattle.ep_answer.specs.declared.answer.Answer.TheVariants.{Bisimilar, Different}
 use Rattle.ep_answer.specs.declared.run_stop.Whose.TheVariants.{First, Second}
 use Rattle.ep_reading.specs.PlanFile.{Ran, PlanFile}

@@ -1,5 +1,6 @@
 // `same FILE PLAN PLAN`.
 ghost use Rattle.std.specs.Prelude.{◌≤◌, IfOk};
+ghost use Rattle.ep_canon.specs.declared.limits.TheConstants.{MOST_CONTRACTED_WORLDS};
 ghost use Rattle.ep_compare.specs.Comparing.{SameWork, TwoPlans};
 ghost use Rattle.ep_reading.specs.PlanFile.{PlanFile, Ran};
 ghost use Rattle.ep_compare.specs.Comparing.{Compares};
@@ -19,8 +20,8 @@ use ep_reading::{plan_file, ran, task_file};
 use std::alloc::Global;
 
 fn compared(alloc: Global, first: &State, second: &State) -> Result<Answer, OutOfMemory>
-    requires first { first.now.worlds ≤ 4096 }
-    requires second { second.now.worlds ≤ 4096 }
+    requires first { first.now.worlds ≤ MOST_CONTRACTED_WORLDS }
+    requires second { second.now.worlds ≤ MOST_CONTRACTED_WORLDS }
     ensures { IfOk result (λ answer. Compares first.now second.now (answers answer)) }
 {
     if ep_canon::same(alloc, first, second)? {
@@ -38,7 +39,7 @@ fn with_second<L: Library>(
     first: &State,
     word: &str,
 ) -> Result<Answer, Stop>
-    requires { first.now.worlds ≤ 4096 }
+    requires { first.now.worlds ≤ MOST_CONTRACTED_WORLDS }
     ensures goes_on { GoesOn (L.library files.old) (L.library files.new) }
     ensures answer { Serves (λ held. PlanFile held OfSecond word.now task.now (λ q. Ran Second task.now q (Compares first.now))) (OnlyPlan OfSecond word.now) ⊥ (L.library files.old) (L.library files.new) result }
 {

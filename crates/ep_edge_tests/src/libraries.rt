@@ -1,7 +1,7 @@
 //! Libraries of named files, in memory and on disk.
 
 use ep_base::{List, Text};
-use ep_io::{DiskLibrary, FetchError, Library, MemoryLibrary};
+use ep_io::{DiskLibrary, FetchError, Library, MemoryLibrary, Tally, take_all};
 use std::alloc::{AllocError, Global};
 use std::fs;
 use std::process::Abort;
@@ -81,5 +81,33 @@ fn a_library_on_disk_reads_whole_files(rt: HostRuntime) -> Result<(), Fail> {
     }
     assert_eq!(rt; into, long);
     fs::remove_file(&rt, "ep_io_test")?;
+    Ok(())
+}
+
+// What a reader has, the name of the answer within 4 bytes, what is there after the call, and how many bytes were taken.
+type ReaderRow = (&'static [u8], &'static str, &'static [u8], u64);
+
+fn check_reader(rt: &impl Abort, alloc: Global, row: &ReaderRow) -> Result<(), AllocError> {
+    let (bytes, answer, wanted, taken) = *row;
+    let mut reader = bytes;
+    let mut into = b"x".to_vec(alloc)?;
+    let mut tally = Tally::new();
+    let found = name(take_all(&mut reader, 4, &mut into, &mut tally));
+    assert_eq!(rt; found, answer);
+    assert_eq!(rt; into.as_slice(), wanted);
+    assert!(rt; tally.faults == 0 && tally.taken == taken);
+    Ok(())
+}
+
+#[test]
+fn a_reader_is_read_to_its_end_or_past_the_limit(rt: HostRuntime) -> Result<(), Fail> {
+    let rows: [ReaderRow; 3] = [
+        (b"", "ok", b"x", 0),
+        (b"abcd", "ok", b"xabcd", 4),
+        (b"abcde", "too long", b"x", 5),
+    ];
+    for row in rows {
+        check_reader(&rt, rt.alloc(), &row)?;
+    }
     Ok(())
 }

@@ -1,8 +1,10 @@
 //! The text of a trial.
 
 use ep_base::Text;
+use ep_layout::print_task;
 use ep_lex::tokens;
-use ep_syntax::{TaskTree, print_task, read_task};
+use ep_syntax::read_task;
+use ep_tree::TaskTree;
 use ep_trial::trial_text;
 use std::alloc::Global;
 use std::process::Abort;

@@ -1,5 +1,6 @@
 //! From words to a command.
 
+use ep_bounds::Mode;
 use ep_words::{Command, Usage, read_words};
 use std::alloc::{AllocError, Global};
 use std::process::Abort;
@@ -86,8 +87,18 @@ fn read(alloc: Global, words: &[&str]) -> Result<Result<Command, Usage>, AllocEr
 
 fn name(found: &Result<Command, Usage>) -> &'static str {
     match found {
-        Ok(Command::Plan { first: false, .. }) => "plan",
-        Ok(Command::Plan { first: true, .. }) => "first plan",
+        Ok(
+            Command::Plan {
+                mode: Mode::Prove,
+                ..
+            },
+        ) => "plan",
+        Ok(
+            Command::Plan {
+                mode: Mode::First,
+                ..
+            },
+        ) => "first plan",
         Ok(Command::Validate) => "validate",
         Ok(Command::Eval) => "eval",
         Ok(Command::State) => "state",

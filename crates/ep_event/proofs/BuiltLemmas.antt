@@ -5,39 +5,26 @@ use Rattle.std.proofs.lemmas.Option.{none-some}
 use Rattle.std.proofs.lemmas.List.{length-map, get_or-map}
 use Rattle.std.proofs.lemmas.List.Sums.{fails_before_first}
 use Rattle.std.proofs.lemmas.List.Quantifiers.{position-Some}
-use Rattle.std.specs.Option.{option_or}
 use Rattle.std.specs.List.{position_or_len, AllByRecursion}
+use Rattle.ep_base.specs.Refusals.{when, above}
+use Rattle.ep_base.proofs.CallerLemmas.{no_place, none_first, not_above, not_when}
 use Rattle.ep_logic.specs.declared.formula.Node.TheVariants.{True}
 use Rattle.ep_logic.specs.declared.ids.EventId.{EventId}
 use Rattle.ep_event.specs.declared.parts.EventParts.{EventParts}
 use Rattle.ep_event.specs.declared.parts.EventLink.{EventLink}
 use Rattle.ep_event.specs.declared.parts.ActionParts.{ActionParts}
-use Rattle.ep_event.specs.declared.refusal.ActionError.{ActionError}
 use Rattle.ep_event.specs.declared.refusal.ActionError.TheVariants.{NoEvent, TooManyEvents, AgentOutOfRange, EventOutOfRange, DesignatedOutOfRange, AtomTwice, NoDesignated}
 use Rattle.ep_event.specs.Built.{event_of, has_link, has_event, built}
-use Rattle.ep_event.specs.Refusals.{refusal_of, when, atom_twice, repeated_atom, sets_at}
-use Rattle.ep_event.specs.Relations.{action_of, all_pairs, row_pairs, linked_rows, IsSound}
 use Rattle.ep_event.proofs.RepeatLemmas.{are_distinct}
-use Rattle.ep_event.proofs.RowLemmas.{row_pairs-chosen, map-table, table-same}
+use Rattle.ep_logic.proofs.CallerLemmas.{map-table, table-same, length-table, get_or-table}
 use Rattle.ep_theory.specs.Rising.{IsIn, IsRising}
-use Rattle.ep_theory.specs.Numbers.{numbers_where, pairs_where, table}
+use Rattle.ep_logic.specs.Numbers.{numbers_where, pairs_where, table}
 use Rattle.ep_theory.specs.Kripke.{pair_cmp}
 use Rattle.ep_theory.specs.Events.{Event, IsAction, AreDistinct}
-use Rattle.ep_theory.proofs.Lists.{from_map, at_All, All-from_each, test_itself}
-use Rattle.ep_theory.proofs.Filters.{to_any}
-use Rattle.ep_theory.proofs.NumbersLemmas.{length-table, get_or-table, from_table, rising_numbers, rising_pairs, in_numbers, from_numbers, from_pairs, place_of}
-
-neither : {X : Type 0} (a b : Option X) → option_or a b ≡ None → (a ≡ None) × (b ≡ None)
-neither (Some x) b h = absurd (none-some x (sym h))
-neither None b h = (refl, h)
-
-no_place : {X Y : Type 0} (f : X → Y) (o : Option X) → option_map f o ≡ None → o ≡ None
-no_place f (Some x) h = absurd (none-some (f x) (sym h))
-no_place f None h = refl
-
-not_when : (b : Bool) (e : ActionError) → when b e ≡ None → b ≡ false
-not_when true e h = absurd (none-some e (sym h))
-not_when false e h = refl
+use Rattle.ep_theory.proofs.CallerLemmas.{from_map, at_All, All-from_each, test_itself, to_any, from_table, rising_numbers, rising_pairs, in_numbers, from_numbers, from_pairs, place_of, row_pairs-chosen}
+use Rattle.ep_event.specs.Refusals.{refusal_of, atom_twice, repeated_atom, sets_at}
+use Rattle.ep_event.specs.Relations.{action_of, linked_rows, IsSound}
+use Rattle.ep_theory.specs.Relations.{all_pairs, row_pairs}
 
 cond_none : {X : Type 0} (b : Bool) (x : X) → cond b (Some x) None ≡ None → b ≡ false
 cond_none true x h = absurd (none-some x (sym h))
@@ -73,6 +60,7 @@ is_there None h e = cc
 pub record AreFine (p : ActionParts) : Type 0 where
   pub some_event : 0 < length p.events
   pub few_events : length p.events ≤ 16
+  pub agents : AllByRecursion (λ l. l.agent.n < p.agents) p.links
   pub links : AllByRecursion (λ l. (l.from.n < length p.events) × (l.to.n < length p.events)) p.links
   pub designated : AllByRecursion (λ d. d.n < length p.events) p.designated
   pub distinct : AllByRecursion (λ (x : EventParts). repeated_atom x.sets ≡ None) p.events
@@ -100,16 +88,18 @@ are_fine p h =
     let agent = option_map AgentOutOfRange (position (λ (l : EventLink). not (ltb l.agent.n p.agents)) p.links) in
     let event = option_map EventOutOfRange (position (λ (l : EventLink). not (ltb l.from.n (length p.events) && ltb l.to.n (length p.events))) p.links) in
     let place = option_map DesignatedOutOfRange (position (λ (d : EventId). not (ltb d.n (length p.events))) p.designated) in
-    let none = when (eqb (length p.designated) 0) NoDesignated in
-    let a = neither (when (eqb (length p.events) 0) NoEvent) (option_or (when (ltb 16 (length p.events)) (TooManyEvents (length p.events))) (option_or agent (option_or event (option_or place (option_or (atom_twice p.events) none))))) h in
-    let b = neither (when (ltb 16 (length p.events)) (TooManyEvents (length p.events))) (option_or agent (option_or event (option_or place (option_or (atom_twice p.events) none)))) a.1 in
-    let c = neither agent (option_or event (option_or place (option_or (atom_twice p.events) none))) b.1 in
-    let d = neither event (option_or place (option_or (atom_twice p.events) none)) c.1 in
-    let e = neither place (option_or (atom_twice p.events) none) d.1 in
-    let f = neither (atom_twice p.events) none e.1 in
+    let a = none_first (when (eqb (length p.events) 0) NoEvent) _ h in
+    let b = none_first (above 16 TooManyEvents (length p.events)) _ a.1 in
+    let c = none_first agent _ b.1 in
+    let d = none_first event _ c.1 in
+    let e = none_first place _ d.1 in
+    let f = none_first (atom_twice p.events) _ e.1 in
+    let g = none_first (when (eqb (length p.designated) 0) NoDesignated) _ f.1 in
     record {
       some_event = some_from_test (length p.events) (not_when (eqb (length p.events) 0) NoEvent a.0);
-      few_events = omega (arith, ltb-false 16 (length p.events) (not_when (ltb 16 (length p.events)) (TooManyEvents (length p.events)) b.0));
+      few_events = not_above 16 TooManyEvents (length p.events) b.0;
+      agents = All-from_each (λ (l : EventLink). l.agent.n < p.agents) p.links (λ l i. ltb-true l.agent.n p.agents (not_false (ltb l.agent.n p.agents)
+          (none_passes (λ (l : EventLink). not (ltb l.agent.n p.agents)) p.links (no_place AgentOutOfRange (position (λ (l : EventLink). not (ltb l.agent.n p.agents)) p.links) c.0) l i)));
       links = All-from_each (λ (l : EventLink). (l.from.n < length p.events) × (l.to.n < length p.events)) p.links (λ l i.
           let both = and_true (ltb l.from.n (length p.events)) (ltb l.to.n (length p.events)) (not_false (ltb l.from.n (length p.events) && ltb l.to.n (length p.events))
           (none_passes (λ (l : EventLink). not (ltb l.from.n (length p.events) && ltb l.to.n (length p.events))) p.links (no_place EventOutOfRange (position (λ (l : EventLink). not (ltb l.from.n (length p.events) && ltb l.to.n (length p.events))) p.links) d.0) l i)) in
@@ -117,7 +107,7 @@ are_fine p h =
       designated = All-from_each (λ (x : EventId). x.n < length p.events) p.designated (λ x i. ltb-true x.n (length p.events) (not_false (ltb x.n (length p.events))
           (none_passes (λ (x : EventId). not (ltb x.n (length p.events))) p.designated (no_place DesignatedOutOfRange (position (λ (x : EventId). not (ltb x.n (length p.events))) p.designated) e.0) x i)));
       distinct = none_twice p.events f.0;
-      some_designated = some_from_test (length p.designated) (not_when (eqb (length p.designated) 0) NoDesignated f.1);
+      some_designated = some_from_test (length p.designated) (not_when (eqb (length p.designated) 0) NoDesignated g.0);
     }
 
 all_rows : {A : Type 0} (P : A → Type 0) (f : ℕ → A) (n : ℕ) → ((a : ℕ) → P (f a)) → AllByRecursion P (table f n)
@@ -162,7 +152,7 @@ pub put_together : (p : ActionParts) (relations : List (List (List ℕ))) (desig
 put_together p relations designated e d =
     let links : map all_pairs relations ≡ table (λ a. pairs_where (has_link p.links a) (length p.events)) p.agents =
     ap (map all_pairs) e ∙ map-table all_pairs (linked_rows p.links (length p.events)) p.agents
-    ∙ table-same (λ a. all_pairs (linked_rows p.links (length p.events) a)) (λ a. pairs_where (has_link p.links a) (length p.events)) p.agents (pairs_chosen p.links (length p.events)) in
+    ∙ table-same (λ a. all_pairs (linked_rows p.links (length p.events) a)) (λ a. pairs_where (has_link p.links a) (length p.events)) p.agents (λ a _. pairs_chosen p.links (length p.events) a) in
     rw (links, d) refl
 
 pub built_is_sound : (p : ActionParts) (relations : List (List (List ℕ))) (designated : List ℕ) → relations ≡ table (linked_rows p.links (length p.events)) p.agents → designated ≡ numbers_where (has_event p.designated) (length p.events) →

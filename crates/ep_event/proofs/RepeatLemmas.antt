@@ -8,12 +8,9 @@ use Rattle.ep_event.specs.declared.parts.Assign.{Assign}
 use Rattle.ep_event.specs.Built.{set_of}
 use Rattle.ep_event.specs.Refusals.{atom_at, is_repeated, repeated_atom}
 use Rattle.ep_theory.specs.Rising.{IsIn}
-use Rattle.ep_theory.specs.Numbers.{numbers_where}
+use Rattle.ep_logic.specs.Numbers.{numbers_where}
 use Rattle.ep_theory.specs.Events.{AreDistinct}
-use Rattle.ep_theory.proofs.Lists.{from_map, IsIn-map, All-from_each, test_itself}
-use Rattle.ep_theory.proofs.Bools.{decided}
-use Rattle.ep_theory.proofs.Counting.{last_or_before}
-use Rattle.ep_theory.proofs.NumbersLemmas.{in_numbers, place_of}
+use Rattle.ep_theory.proofs.CallerLemmas.{from_map, IsIn-map, All-from_each, test_itself, decided, last_or_before, in_numbers, place_of}
 
 first_of_more : (xs ys : List ℕ) (i : ℕ) → slice_get xs 0 ≡ Some i → slice_get (xs ++ ys) 0 ≡ Some i
 first_of_more [] ys i h = absurd (none-some i h)

@@ -1,12 +1,14 @@
 ghost use Rattle.std.specs.Prelude.{◌≡◌, ◌<◌, ◌≤◌, ◌^◌, ◌↔◌, true, false, map, drop, length, IsTrue, IfOk, option_map};
 ghost use Rattle.ep_logic.specs.AgentSets.{is_nobody};
 ghost use Rattle.ep_logic.specs.Nodes.{IsFormula, node_count, depth_of};
+ghost use Rattle.ep_logic.specs.declared.formula.TheConstants.{MOST_DEPTH, MOST_NODES};
 ghost use Rattle.ep_theory.specs.Rising.{IsIn};
 ghost use Rattle.ep_theory.specs.Kripke.{successors};
 ghost use Rattle.ep_theory.specs.Events.{IsAction, event_at, event_links};
 ghost use Rattle.ep_theory.specs.FourActions.{announce, private, sense, assign};
 ghost use Rattle.ep_event.specs.Built.{set_of, built};
-ghost use Rattle.ep_event.specs.Refusals.{Answers, refusal_of, repeated_atom};
+ghost use Rattle.ep_base.specs.Refusals.{Answers};
+ghost use Rattle.ep_event.specs.Refusals.{refusal_of, repeated_atom};
 
 use crate::marks::named;
 use crate::numbers::Numbers;
@@ -57,11 +59,11 @@ impl Model for Action {
 impl Action {
     /// The action with these parts.
     pub fn build(alloc: Global, parts: ActionParts) -> Result<Action, ActionError>
-        requires agents { parts.agents ≤ 8 }
+        requires agents { parts.agents ≤ MOST_AGENTS }
         requires events { length parts.events < 2 ^ 32 }
         requires links { length parts.links < 2 ^ 32 }
         requires designated { length parts.designated < 2 ^ 32 }
-        ensures { Answers (refusal_of parts) (built parts) result }
+        ensures { Answers ActionError.OutOfMemory (refusal_of parts) (λ action. action ≡ built parts) result }
     {
         check(&parts)?;
         let ActionParts {
@@ -82,7 +84,7 @@ impl Action {
 
     /// Everyone sees that `f` is true.
     pub fn announce(alloc: Global, agents: u32, f: Formula) -> Result<Action, OutOfMemory>
-        requires { agents ≤ 8 }
+        requires { agents ≤ MOST_AGENTS }
         ensures { IfOk result (λ a. a ≡ announce agents f) }
     {
         Ok(Action {
@@ -99,7 +101,7 @@ impl Action {
         f: Formula,
         group: Agents,
     ) -> Result<Action, OutOfMemory>
-        requires agents { agents ≤ 8 }
+        requires agents { agents ≤ MOST_AGENTS }
         requires some_member { is_nobody group ≡ false }
         requires members { is_nobody (drop agents group) ≡ true }
         ensures { IfOk result (λ a. a ≡ private agents f group) }
@@ -118,11 +120,11 @@ impl Action {
         f: Formula,
         group: Agents,
     ) -> Result<Action, OutOfMemory>
-        requires agents { agents ≤ 8 }
+        requires agents { agents ≤ MOST_AGENTS }
         requires some_member { is_nobody group ≡ false }
         requires members { is_nobody (drop agents group) ≡ true }
-        requires shallow { depth_of f < 128 }
-        requires small { node_count f < 131072 }
+        requires shallow { depth_of f < MOST_DEPTH }
+        requires small { node_count f < MOST_NODES }
         ensures { IfOk result (λ a. a ≡ sense agents f group) }
     {
         let no = negation(alloc, &f)?;
@@ -140,8 +142,8 @@ impl Action {
         f: Formula,
         sets: List<Assign>,
     ) -> Result<Action, ActionError>
-        requires { agents ≤ 8 }
-        ensures { Answers (option_map (ActionError.AtomTwice 0) (repeated_atom sets)) (assign agents f (map set_of sets)) result }
+        requires { agents ≤ MOST_AGENTS }
+        ensures { Answers ActionError.OutOfMemory (option_map (ActionError.AtomTwice 0) (repeated_atom sets)) (λ action. action ≡ assign agents f (map set_of sets)) result }
     {
         if let Some(atom) = first_repeat(sets.as_slice()) {
             return Err(ActionError::AtomTwice { event: 0, atom });
@@ -153,11 +155,19 @@ impl Action {
         })
     }
 
+    /// What is known of every action. It does nothing: a proof calls it where the code asks nothing of the action.
+    pub fn known(&self)
+        ensures valid { IsAction self.now }
+        ensures few_agents { length self.now.links ≤ MOST_AGENTS }
+    {
+        let _relations = &self.relations;
+    }
+
     /// The number of agents.
     pub fn agents(&self) -> u32
         ensures value { result ≡ length self.now.links }
         ensures valid { IsAction self.now }
-        ensures few_agents { length self.now.links ≤ 8 }
+        ensures few_agents { length self.now.links ≤ MOST_AGENTS }
     {
         self.relations.as_slice().len() as u32
     }
@@ -166,7 +176,7 @@ impl Action {
     pub fn events(&self) -> u32
         ensures value { result ≡ length self.now.events }
         ensures valid { IsAction self.now }
-        ensures few_agents { length self.now.links ≤ 8 }
+        ensures few_agents { length self.now.links ≤ MOST_AGENTS }
     {
         self.events.as_slice().len() as u32
     }
@@ -179,7 +189,7 @@ impl Action {
         ensures valid { IsAction self.now }
     {
         let event = &self.events.as_slice()[e.n as usize];
-        let _root = event.pre.node();
+        event.pre.known();
         &event.pre
     }
 
@@ -247,6 +257,7 @@ impl Action {
 }
 
 ghost use Rattle.std.specs.Prelude.{[], ◌∷◌};
+ghost use Rattle.ep_logic.specs.declared.limits.TheConstants.{MOST_AGENTS};
 ghost use Rattle.ep_logic.specs.declared.formula.Node.TheVariants.{Not};
 
 fn contains(numbers: &[u32], number: u32) -> bool
@@ -257,8 +268,8 @@ fn contains(numbers: &[u32], number: u32) -> bool
 
 // The negation of a formula whose negation is one.
 fn negation(alloc: Global, f: &Formula) -> Result<Formula, OutOfMemory>
-    requires shallow { depth_of f.now < 128 }
-    requires small { node_count f.now < 131072 }
+    requires shallow { depth_of f.now < MOST_DEPTH }
+    requires small { node_count f.now < MOST_NODES }
     ensures { IfOk result (λ no. no ≡ Not f.now) }
 {
     match Formula::not(alloc, f.copy(alloc)?) {

@@ -2,10 +2,12 @@
 #![tactic(auto)]
 
 pub mod action;
+mod equivalence;
+pub mod laws;
 mod marks;
 mod numbers;
 pub mod parts;
-pub mod refusal;
+mod refusal;
 mod relations;
 
 pub use action::Action;

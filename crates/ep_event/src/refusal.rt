@@ -2,11 +2,8 @@ ghost use Rattle.std.specs.Prelude.{◌≡◌, ◌<◌, ◌^◌, ◌&&◌, ◌==
 ghost use Rattle.std.specs.List.{list_any};
 
 use crate::parts::{ActionParts, Assign, EventLink, EventParts};
-use ep_logic::{EventId, OutOfMemory};
+use ep_logic::{EventId, MOST_EVENTS, OutOfMemory};
 use std::fmt;
-
-/// The greatest number of events of an action.
-pub const MOST_EVENTS: usize = 16;
 
 /// Why no action has given parts. The variants stand in the order in which they are looked for. Numbers of events and
 /// places in lists start at 0.
@@ -63,6 +60,7 @@ impl From<OutOfMemory> for ActionError {
     }
 }
 
+ghost use Rattle.ep_base.specs.Refusals.{told};
 ghost use Rattle.ep_event.specs.Refusals.{is_repeated, repeated_atom, atom_twice, refusal_of};
 
 fn assigns_to(sets: &[Assign], atom: u32) -> bool
@@ -101,7 +99,7 @@ fn first_event_with_repeat(events: &[EventParts]) -> Option<usize>
 
 fn check_assignments(events: &[EventParts]) -> Result<(), ActionError>
     requires { length events.now < 2 ^ 32 }
-    ensures { MatchResult result (λ _. atom_twice events.now ≡ None) (λ e. atom_twice events.now ≡ Some e) }
+    ensures { result ≡ told (atom_twice events.now) }
 {
     if let Some(event) = first_event_with_repeat(events) {
         if let Some(atom) = first_repeat(events[event].sets.as_slice()) {
@@ -139,7 +137,7 @@ pub fn check(parts: &ActionParts) -> Result<(), ActionError>
     requires events { length parts.now.events < 2 ^ 32 }
     requires links { length parts.now.links < 2 ^ 32 }
     requires designated { length parts.now.designated < 2 ^ 32 }
-    ensures { MatchResult result (λ _. refusal_of parts.now ≡ None) (λ e. refusal_of parts.now ≡ Some e) }
+    ensures { result ≡ told (refusal_of parts.now) }
 {
     let events = parts.events.as_slice();
     let links = parts.links.as_slice();

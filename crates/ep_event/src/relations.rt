@@ -1,26 +1,16 @@
 // The successors of each event, agent by agent.
-ghost use Rattle.std.specs.Prelude.{◌≡◌, ◌<◌, false, [], ◌∷◌, length, map, slice_index_or, IfOk};
+ghost use Rattle.std.specs.Prelude.{◌≡◌, ◌<◌, ◌≤◌, [], ◌∷◌, IfOk};
 ghost use Rattle.std.specs.List.{AllByRecursion};
-ghost use Rattle.ep_theory.specs.Numbers.{numbers_where, table};
-ghost use Rattle.ep_theory.specs.FourActions.{is_member};
+ghost use Rattle.ep_logic.specs.declared.table.TheConstants.{MOST_ROWS};
+ghost use Rattle.ep_logic.specs.Numbers.{table};
+ghost use Rattle.ep_logic.specs.Rows.{value_at};
 ghost use Rattle.ep_event.specs.Relations.{linked_rows, two_rows};
 
-use crate::marks::{marked, marks};
+use crate::marks::marks;
 use crate::numbers::Numbers;
 use crate::parts::EventLink;
-use ep_logic::{AgentId, Agents, Bits, List, OutOfMemory};
+use ep_logic::{AgentId, Agents, List, OutOfMemory};
 use std::alloc::Global;
-
-// The rows of a square of truth values as lists.
-fn rows_of(alloc: Global, square: &[Bits]) -> Result<List<Numbers>, OutOfMemory>
-    ensures { IfOk result (λ rows. rows ≡ map (λ row. numbers_where (λ f. slice_index_or row f false) (length row)) square.now) }
-{
-    let mut rows = List::new(alloc);
-    for row in square {
-        rows.push(marked(alloc, row)?)?;
-    }
-    Ok(rows)
-}
 
 // One agent's links.
 fn rows(
@@ -29,11 +19,17 @@ fn rows(
     events: u32,
     links: &[EventLink],
 ) -> Result<List<Numbers>, OutOfMemory>
-    requires { AllByRecursion (λ l. (l.from.n < events) × (l.to.n < events)) links.now }
+    requires few { events ≤ MOST_ROWS }
+    requires within { AllByRecursion (λ l. (l.from.n < events) × (l.to.n < events)) links.now }
     ensures { IfOk result (λ rows. rows ≡ linked_rows links.now events agent) }
 {
     let square = marks(alloc, agent, events, links)?;
-    rows_of(alloc, &square)
+    let mut rows = List::new(alloc);
+    for event in 0..events {
+        let targets = square.places(alloc, event)?;
+        rows.push(Numbers::from_slice(alloc, targets.as_slice())?)?;
+    }
+    Ok(rows)
 }
 
 /// Each agent's links.
@@ -43,7 +39,8 @@ pub fn relations(
     events: u32,
     links: &[EventLink],
 ) -> Result<List<List<Numbers>>, OutOfMemory>
-    requires { AllByRecursion (λ l. (l.from.n < events) × (l.to.n < events)) links.now }
+    requires few { events ≤ MOST_ROWS }
+    requires within { AllByRecursion (λ l. (l.from.n < events) × (l.to.n < events)) links.now }
     ensures { IfOk result (λ relations. relations ≡ table (linked_rows links.now events) agents) }
 {
     let mut relations = List::new(alloc);
@@ -92,7 +89,7 @@ pub fn told_apart_by(
     group: &Agents,
     seen: &[u32],
 ) -> Result<List<List<Numbers>>, OutOfMemory>
-    ensures { IfOk result (λ relations. relations ≡ table (λ a. two_rows (is_member group.now a) seen.now) agents) }
+    ensures { IfOk result (λ relations. relations ≡ table (λ a. two_rows (value_at group.now a) seen.now) agents) }
 {
     let mut relations = List::new(alloc);
     for n in 0..agents {

@@ -8,10 +8,10 @@ use Rattle.ep_logic.specs.declared.formula.Node.TheVariants as node
 use Rattle.ep_theory.specs.Kripke.{Kripke}
 use Rattle.ep_theory.specs.Fits.{fits_in, Fits, SetFits, EventFits, ActionFits}
 use Rattle.ep_theory.specs.FourActions.{plain}
-use Rattle.ep_theory.specs.Numbers.{table}
-use Rattle.ep_theory.proofs.NumbersLemmas.{length-table}
+use Rattle.ep_logic.specs.Numbers.{table}
+use Rattle.ep_logic.proofs.CallerLemmas.{length-table}
 use Rattle.ep_binding.specs.Bindings.{bindings, distinct_bindings, all_different, IsBinding}
-use Rattle.ep_binding.proofs.LawsLemmas.{all-bindings}
+use Rattle.ep_binding.proofs.CallerLemmas.{all-bindings}
 use Rattle.ep_tree.specs.declared.tree.AtomTree.{AtomTree}
 use Rattle.ep_tree.specs.declared.tree.ParamTree.{ParamTree}
 use Rattle.ep_tree.specs.declared.tree.FormulaTree.{FormulaTree}
@@ -31,11 +31,9 @@ use Rattle.ep_universe.specs.Atoms.{atoms_of, atom_at, ground_atom}
 use Rattle.ep_universe.specs.Formulas.{ground_of}
 use Rattle.ep_universe.specs.Objects.{Binding, agents_of, candidates, bound}
 use Rattle.ep_universe.specs.Typing.{Suits}
-use Rattle.ep_universe.proofs.FitLemmas.{fits-True, fits-Not}
-use Rattle.ep_universe.proofs.LawLemmas.{formulas_fit, atoms_stand, suits, nothing_bound}
-use Rattle.ep_universe.proofs.TypedLemmas.{both-none}
-use Rattle.ep_parts.specs.Actions.{schema_bindings, set_of, event_of, action_of, action_at, schema_actions, actions_of}
-use Rattle.ep_parts.specs.Links.{agent_count}
+use Rattle.ep_universe.proofs.CallerLemmas.{fits-True, fits-Not, formulas_fit, atoms_stand, suits, nothing_bound, both-none}
+use Rattle.ep_schema.specs.Actions.{schema_bindings, set_of, event_of, action_of, action_at, schema_actions, actions_of}
+use Rattle.ep_universe.specs.Links.{agent_count}
 
 -- ---- lists
 

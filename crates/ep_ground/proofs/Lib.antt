@@ -1,4 +1,5 @@
 pub mod FitLemmas
-pub mod InitialLemmas
+pub mod ReadLemmas
 pub mod TaskLemmas
 pub mod TextLemmas
+pub mod WithinLemmas

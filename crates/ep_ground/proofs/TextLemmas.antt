@@ -1,8 +1,8 @@
 -- Whether a number is designated.
 use Rattle.std.proofs.Common.{◌≡◌, ◌↔◌, ℕ, Bool, true, false, IsTrue, List, refl}
-use Rattle.ep_theory.specs.Numbers.{has_number}
+use Rattle.ep_logic.specs.Numbers.{has_number}
 use Rattle.ep_theory.specs.Rising.{IsIn}
-use Rattle.ep_theory.proofs.NumbersLemmas.{to_has_number, from_has_number}
+use Rattle.ep_theory.proofs.CallerLemmas.{to_has_number, from_has_number}
 
 decided : (b t : Bool) → (IsTrue b → IsTrue t) → (IsTrue t → IsTrue b) → t ≡ b
 decided true t f g = f refl

@@ -1,34 +1,32 @@
 -- The ground task of a typed task, and the first fault of one that has none.
-use Rattle.std.specs.Prelude.{◌≡◌, [], ◌∷◌, Option, option_map, unwrap_or, length}
-use Rattle.ep_theory.specs.Kripke.{Kripke}
+use Rattle.std.specs.Prelude.{◌≡◌, List, [], ◌∷◌, Option, option_map, length}
+use Rattle.ep_base.specs.Refusals.{first_some}
 use Rattle.ep_theory.specs.PlanningTask.{PlanningTask}
-use Rattle.ep_tree.specs.declared.tree.InitTree.{InitTree}
-use Rattle.ep_tree.specs.declared.tree.InitTree.TheVariants.{Explicit, Lawful}
 use Rattle.ep_tree.specs.declared.tree.TaskTree.{TaskTree}
-use Rattle.ep_types.specs.Tasks.{declarations}
+use Rattle.ep_tree.specs.Grammar.{IsRead}
+use Rattle.ep_types.specs.Tasks.{HasNoFault, declarations}
 use Rattle.ep_types.specs.declared.scope.Declared.{Declared}
 use Rattle.ep_universe.specs.Atoms.{atoms_of}
 use Rattle.ep_universe.specs.Formulas.{ground_of}
-use Rattle.ep_universe.specs.Limits.{IsWithin}
+use Rattle.ep_universe.specs.Universe.{HasFewNames, universe_fault}
+use Rattle.ep_universe.specs.declared.universe_error.UniverseError.{UniverseError}
+use Rattle.ep_universe.specs.declared.universe_error.UniverseError.TheVariants as universe
 use Rattle.ep_universe.specs.Objects.{agents_of}
-use Rattle.ep_lawful.specs.Faults.{lawful_fault}
-use Rattle.ep_lawful.specs.Lawful.{lawful_state}
-use Rattle.ep_lawful.specs.declared.fault.LawfulError.{LawfulError}
-use Rattle.ep_lawful.specs.declared.fault.LawfulError.TheVariants as lawful
-use Rattle.ep_parts.specs.Actions.{actions_of}
-use Rattle.ep_parts.specs.Faults.{atom_twice, explicit_fault, first_of, limit_fault}
-use Rattle.ep_parts.specs.Initial.{explicit_state}
-use Rattle.ep_parts.specs.PrintedNames.{agent_names, atom_names, action_names}
-use Rattle.ep_parts.specs.Task.{GroundTask}
-use Rattle.ep_parts.specs.declared.fault.GroundError.{GroundError}
-use Rattle.ep_parts.specs.declared.fault.GroundError.TheVariants as fault
+use Rattle.ep_universe.specs.PrintedNames.{agent_names, atom_names}
+use Rattle.ep_initial.specs.Initial.{init_fault, initial_of}
+use Rattle.ep_initial.specs.declared.fault.InitialError.{InitialError}
+use Rattle.ep_initial.specs.declared.fault.InitialError.TheVariants as initial
+use Rattle.ep_schema.specs.ActionNames.{action_names}
+use Rattle.ep_schema.specs.Actions.{actions_of}
+use Rattle.ep_schema.specs.Faults.{atom_twice}
+use Rattle.ep_schema.specs.declared.fault.SchemaError.{SchemaError}
+use Rattle.ep_schema.specs.declared.fault.SchemaError.TheVariants as schema
+use Rattle.ep_ground.specs.Faults.{limit_fault}
+use Rattle.ep_ground.specs.Task.{GroundTask}
+use Rattle.ep_ground.specs.declared.fault.GroundError.{GroundError}
+use Rattle.ep_ground.specs.declared.fault.GroundError.TheVariants as fault
 
 -- ---- the ground task
-
--- the initial state; a lawful form without the part `facts` has no facts
-abbrev pub initial_of : Declared → InitTree → Kripke
-initial_of d (Explicit worlds designated links) = explicit_state d worlds designated links
-initial_of d (Lawful vary facts law sees designated) = lawful_state d vary (unwrap_or facts []) law sees designated
 
 abbrev pub problem_from : Declared → TaskTree → PlanningTask
 problem_from d t = record {
@@ -50,38 +48,53 @@ task_from d t = record {
 abbrev pub task_of : TaskTree → GroundTask
 task_of t = task_from (declarations t) t
 
--- each agent, atom and action of the problem has a name, the agents and atoms are those of the tree, within the limits
+-- the ground task of its tree, which was read and has no fault
+pub record IsWhole (g : GroundTask) : Type 0 where
+  pub task : g ≡ task_of g.tree
+  pub typed : HasNoFault g.tree
+  pub read : IsRead g.tree
+
+-- each agent, atom and action of the problem has a name, the agents and atoms are those of the tree, and few enough
 pub record IsNamed (g : GroundTask) : Type 0 where
   pub agents : length g.agents ≡ g.problem.initial.agents
   pub atoms : length g.atoms ≡ g.problem.initial.atoms
   pub actions : length g.actions ≡ length g.problem.actions
   pub declared_agents : length g.agents ≡ length (agents_of (declarations g.tree))
   pub declared_atoms : length g.atoms ≡ length (atoms_of (declarations g.tree))
-  pub within : IsWithin (declarations g.tree)
+  pub whole : IsWhole g
+  pub few : HasFewNames (declarations g.tree)
 
 -- ---- the first fault
 
--- the fault of the lawful form as one of the task
-abbrev pub task_error : LawfulError → GroundError
-task_error (lawful.TooManyVaried count) = fault.TooManyVaried count
-task_error (lawful.TooManyWorlds count) = fault.TooManyWorlds count
-task_error lawful.NoDesignated = fault.NoDesignated
-task_error lawful.OutOfMemory = fault.OutOfMemory
+-- what is told of names, of actions and of the initial state, as of the task
+abbrev pub of_universe : UniverseError → GroundError
+of_universe (universe.TooManyObjects count) = fault.TooManyObjects count
+of_universe universe.NoAgent = fault.NoAgent
+of_universe (universe.TooManyAgents count) = fault.TooManyAgents count
+of_universe (universe.TooManyAtoms count) = fault.TooManyAtoms count
+of_universe universe.OutOfMemory = fault.OutOfMemory
 
-abbrev pub init_fault : Declared → InitTree → Option GroundError
-init_fault d (Explicit worlds designated links) = explicit_fault worlds
-init_fault d (Lawful vary facts law sees designated) = option_map task_error (lawful_fault d vary (unwrap_or facts []) law designated)
+abbrev pub of_schema : SchemaError → GroundError
+of_schema (schema.AtomTwice name) = fault.AtomTwice name
+of_schema schema.OutOfMemory = fault.OutOfMemory
+
+abbrev pub of_initial : InitialError → GroundError
+of_initial (initial.TooManyVaried count) = fault.TooManyVaried count
+of_initial (initial.TooManyWorlds count) = fault.TooManyWorlds count
+of_initial initial.NoDesignated = fault.NoDesignated
+of_initial initial.OutOfMemory = fault.OutOfMemory
 
 -- the rows behind the limits: an action with an atom set twice, and then the initial state's
-abbrev pub later_fault : Declared → TaskTree → Option GroundError
-later_fault d t = first_of (
-    atom_twice (action_names d t.schemas) (actions_of d t.schemas)
-    ∷ init_fault d t.init
-    ∷ [])
+abbrev pub behind_limits : Declared → TaskTree → List (Option GroundError)
+behind_limits d t =
+    option_map of_schema (atom_twice (action_names d t.schemas) (actions_of d t.schemas))
+    ∷ option_map of_initial (init_fault d t.init)
+    ∷ []
 
+-- the rows behind those of the names
+abbrev pub behind_names : Declared → TaskTree → List (Option GroundError)
+behind_names d t = limit_fault d t ∷ behind_limits d t
+
+-- the first fault of all rows
 abbrev pub fault_of : Declared → TaskTree → Option GroundError
-fault_of d t = first_of (
-    limit_fault d t
-    ∷ atom_twice (action_names d t.schemas) (actions_of d t.schemas)
-    ∷ init_fault d t.init
-    ∷ [])
+fault_of d t = first_some (option_map of_universe (universe_fault d) ∷ behind_names d t)

@@ -1,2 +1,7 @@
+pub mod Faults
+pub mod FormulaFaults
 pub mod Grounding
 pub mod StateText
+pub mod Task
+pub mod Within
+pub mod Written

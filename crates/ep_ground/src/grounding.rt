@@ -1,59 +1,49 @@
 //! The ground task of a typed task.
 
-ghost use Rattle.std.specs.Prelude.{◌≡◌, ◌≤◌, ◌⊎◌, IfErr, IfOk, None, OnOk, Some, length};
-ghost use Rattle.ep_types.specs.Tasks.{declarations};
-ghost use Rattle.ep_ground.specs.Grounding.{fault_of, later_fault, problem_from, task_of};
-ghost use Rattle.ep_parts.specs.Faults.{limit_fault};
-ghost use Rattle.ep_parts.specs.PrintedNames as printed;
+ghost use Rattle.std.specs.Prelude.{◌≡◌, IfErr, IfOk, None, OnOk};
+ghost use Rattle.ep_base.specs.Refusals.{Reports, first_some};
 ghost use Rattle.ep_tree.specs.Grammar.{IsRead};
-ghost use Rattle.ep_parts.specs.Within.{IsWithinLimits};
-ghost use Rattle.ep_universe.specs.Limits.{IsWithin};
-ghost use Rattle.ep_parts.specs.declared.fault.GroundError.TheVariants as fault;
+ghost use Rattle.ep_types.specs.Tasks.{declarations};
+ghost use Rattle.ep_universe.specs.Universe.{IsUniverse};
+ghost use Rattle.ep_schema.specs.ActionNames.{action_names};
+ghost use Rattle.ep_ground.specs.Grounding.{behind_names, fault_of, problem_from, task_of};
 
+use crate::fault::GroundError;
+use crate::limits::check_limits;
 use crate::task::{Parts, Task, parts_of_task};
-use ep_parts::{GroundError, check_limits};
 use ep_types::Typed;
+use ep_universe::universe::Universe;
 use std::alloc::Global;
 
-fn limits(alloc: Global, typed: &Typed) -> Result<(), GroundError>
-    requires { IsRead typed.now }
-    ensures within { IfOk result (λ _. IsWithinLimits (declarations typed.now) typed.now) }
-    ensures sound { OnOk result (limit_fault (declarations typed.now) typed.now ≡ None) }
-    ensures err { IfErr result (λ e. (e ≡ fault.OutOfMemory) ⊎ (fault_of (declarations typed.now) typed.now ≡ Some e)) }
+fn checked_parts(alloc: Global, universe: &Universe) -> Result<Parts, GroundError>
+    ensures actions { IfOk result (λ parts. parts.actions ≡ action_names universe.now.names universe.now.tree.schemas) }
+    ensures problem { IfOk result (λ parts. parts.problem ≡ problem_from universe.now.names universe.now.tree) }
+    ensures known { IsUniverse universe.now }
+    ensures sound { OnOk result (first_some (behind_names universe.now.names universe.now.tree) ≡ None) }
+    ensures err { IfErr result (Reports GroundError.OutOfMemory (first_some (behind_names universe.now.names universe.now.tree))) }
 {
-    check_limits(alloc, typed)
+    universe.known();
+    check_limits(alloc, universe)?;
+    parts_of_task(alloc, universe)
 }
 
-fn parts(alloc: Global, typed: &Typed) -> Result<Parts, GroundError>
-    requires read { IsRead typed.now }
-    requires within { IsWithinLimits (declarations typed.now) typed.now }
-    requires sound { limit_fault (declarations typed.now) typed.now ≡ None }
-    ensures agents { IfOk result (λ parts. parts.agents ≡ printed.agent_names (declarations typed.now)) }
-    ensures atoms { IfOk result (λ parts. parts.atoms ≡ printed.atom_names (declarations typed.now)) }
-    ensures actions { IfOk result (λ parts. parts.actions ≡ printed.action_names (declarations typed.now) typed.now.schemas) }
-    ensures problem { IfOk result (λ parts. parts.problem ≡ problem_from (declarations typed.now) typed.now) }
-    ensures sound { OnOk result (fault_of (declarations typed.now) typed.now ≡ None) }
-    ensures err { IfErr result (λ e. (e ≡ fault.OutOfMemory) ⊎ (fault_of (declarations typed.now) typed.now ≡ Some e)) }
-{
-    parts_of_task(alloc, typed)
-}
+// Frees a universe. Its many parts are freed in a function of its own, so that the proof of `ground_universe` has none of
+// them.
+fn discard(_universe: Universe) {}
 
-fn checked_parts(alloc: Global, typed: &Typed) -> Result<Parts, GroundError>
-    requires read { IsRead typed.now }
-    ensures agents { IfOk result (λ parts. parts.agents ≡ printed.agent_names (declarations typed.now)) }
-    ensures atoms { IfOk result (λ parts. parts.atoms ≡ printed.atom_names (declarations typed.now)) }
-    ensures actions { IfOk result (λ parts. parts.actions ≡ printed.action_names (declarations typed.now) typed.now.schemas) }
-    ensures problem { IfOk result (λ parts. parts.problem ≡ problem_from (declarations typed.now) typed.now) }
-    ensures within { IfOk result (λ _. IsWithin (declarations typed.now)) }
-    ensures sound { OnOk result (fault_of (declarations typed.now) typed.now ≡ None) }
-    ensures err { IfErr result (λ e. (e ≡ fault.OutOfMemory) ⊎ (fault_of (declarations typed.now) typed.now ≡ Some e)) }
+fn ground_universe(alloc: Global, universe: Universe) -> Result<Task, GroundError>
+    ensures task { IfOk result (λ task. task ≡ task_of universe.tree) }
+    ensures sound { OnOk result (first_some (behind_names universe.names universe.tree) ≡ None) }
+    ensures err { IfErr result (Reports GroundError.OutOfMemory (first_some (behind_names universe.names universe.tree))) }
 {
-    limits(alloc, typed)?;
-    parts(alloc, typed)
+    match checked_parts(alloc, &universe) {
+        Ok(parts) => Ok(Task::from_parts(universe, parts)),
+        Err(error) => {
+            discard(universe);
+            Err(error)
+        }
+    }
 }
-
-// Frees a typed task. Its many parts are freed in a function of its own, so that the proof of `ground` has none of them.
-fn discard(_typed: Typed) {}
 
 /// The ground task of a typed task, or the first row of the table of ground faults that
 /// holds, with its exact count, token or printed name.
@@ -61,13 +51,8 @@ pub fn ground(alloc: Global, typed: Typed) -> Result<Task, GroundError>
     requires read { IsRead typed }
     ensures task { IfOk result (λ task. task ≡ task_of typed) }
     ensures sound { OnOk result (fault_of (declarations typed) typed ≡ None) }
-    ensures fault { IfErr result (λ e. (e ≡ fault.OutOfMemory) ⊎ (fault_of (declarations typed) typed ≡ Some e)) }
+    ensures fault { IfErr result (Reports GroundError.OutOfMemory (fault_of (declarations typed) typed)) }
 {
-    match checked_parts(alloc, &typed) {
-        Ok(parts) => Ok(Task::from_parts(typed, parts)),
-        Err(error) => {
-            discard(typed);
-            Err(error)
-        }
-    }
+    let universe = Universe::new(alloc, typed)?;
+    ground_universe(alloc, universe)
 }

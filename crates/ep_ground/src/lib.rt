@@ -1,16 +1,21 @@
 //! The ground task of a typed task.
 #![tactic(auto)]
 
+mod fault;
 mod formula;
+mod formula_fault;
+mod formulas;
 mod grounding;
-mod initial;
 pub mod laws;
+mod limits;
 mod state_text;
 mod task;
-mod text_builder;
 
-pub use ep_parts::GroundError;
+pub use ep_problem::{Plan, Problem};
+pub use fault::GroundError;
 pub use formula::ground_formula;
+pub use formula_fault::FormulaFault;
 pub use grounding::ground;
+pub use limits::{MOST_TASK_NODES, check_limits};
 pub use state_text::print_state;
 pub use task::{Parts, Task, parts_of_task};

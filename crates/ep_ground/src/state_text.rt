@@ -1,17 +1,17 @@
 //! The text of a state.
 
-ghost use Rattle.std.specs.Prelude.{◌≡◌, ◌<◌, ◌++◌, IfOk, OnOk, length, map, slice_index_or};
-ghost use Rattle.std.specs.List.{flat_map};
-ghost use Rattle.std.specs.Str.{IsAscii};
+ghost use Rattle.std.specs.Prelude.{◌≡◌, ◌<◌, ◌++◌, IfOk, IsTrue, OnOk, length, map, slice_index_or};
+ghost use Rattle.std.specs.Char.{is_ascii};
+ghost use Rattle.std.specs.List.{flat_map, list_all};
+ghost use Rattle.ep_base.specs.Texts.{line, lines};
 ghost use Rattle.ep_theory.specs.Kripke.{links_of, successors};
-ghost use Rattle.ep_theory.specs.Numbers.{table};
+ghost use Rattle.ep_logic.specs.Numbers.{table};
 ghost use Rattle.ep_ground.specs.StateText as spec;
-ghost use Rattle.ep_ground.specs.StateText.{line};
 
 use crate::task::Task;
-use crate::text_builder::TextBuilder;
+use ep_base::{OutOfMemory, Text, TextBuilder};
 use ep_kripke::State;
-use ep_logic::{AgentId, AtomId, OutOfMemory, Text, WorldId};
+use ep_logic::{AgentId, AtomId, WorldId};
 use std::alloc::Global;
 
 fn push_digits(text: &mut TextBuilder, state: &State, world: WorldId) -> Result<(), OutOfMemory>
@@ -39,7 +39,7 @@ fn push_bits(text: &mut TextBuilder, state: &State, world: WorldId) -> Result<()
 
 fn designation(state: &State, world: WorldId) -> &'static str
     ensures value { result.now ≡ spec.designation state.now world.n }
-    ensures ascii { IsAscii result.now }
+    ensures ascii { IsTrue (list_all is_ascii result.now) }
 {
     match state.is_designated(world) {
         true => " designated",
@@ -48,7 +48,7 @@ fn designation(state: &State, world: WorldId) -> &'static str
 }
 
 fn push_atom_lines(text: &mut TextBuilder, atoms: &[Text]) -> Result<(), OutOfMemory>
-    ensures { OnOk result (text.new ≡ text.old ++ flat_map line (map spec.atom_line atoms.now)) }
+    ensures { OnOk result (text.new ≡ text.old ++ lines (map spec.atom_line atoms.now)) }
 {
     for atom in atoms {
         text.push("atom ")?;
@@ -71,7 +71,7 @@ fn push_world_line(text: &mut TextBuilder, state: &State, world: WorldId) -> Res
 }
 
 fn push_world_lines(text: &mut TextBuilder, state: &State) -> Result<(), OutOfMemory>
-    ensures { OnOk result (text.new ≡ text.old ++ flat_map line (table (spec.world_line state.now) state.now.worlds)) }
+    ensures { OnOk result (text.new ≡ text.old ++ lines (table (spec.world_line state.now) state.now.worlds)) }
 {
     for world in 0..state.worlds() {
         push_world_line(text, state, WorldId { n: world })?;
@@ -91,49 +91,56 @@ fn push_numbers(text: &mut TextBuilder, numbers: &[u32]) -> Result<(), OutOfMemo
 
 fn push_link_line(
     text: &mut TextBuilder,
-    state: &State,
-    agent: AgentId,
     name: &Text,
-    world: WorldId,
+    world: u32,
+    targets: &[u32],
 ) -> Result<(), OutOfMemory>
-    requires agent { agent.n < state.now.agents }
-    requires world { world.n < state.now.worlds }
-    ensures { OnOk result (text.new ≡ text.old ++ line (spec.link_line state.now agent.n name.now world.n)) }
+    ensures { OnOk result (text.new ≡ text.old ++ line (spec.targets_line name.now world targets.now)) }
 {
     text.push("links ")?;
     text.push_text(name)?;
     text.push(" ")?;
-    text.push_number(world.n)?;
+    text.push_number(world)?;
     text.push(":")?;
-    push_numbers(text, state.targets(agent, world))?;
+    push_numbers(text, targets)?;
     text.push("\n")
 }
 
 fn push_agent_lines(
+    alloc: Global,
     text: &mut TextBuilder,
     state: &State,
     agent: AgentId,
     name: &Text,
 ) -> Result<(), OutOfMemory>
     requires agent { agent.n < state.now.agents }
-    ensures { OnOk result (text.new ≡ text.old ++ flat_map line (table (spec.link_line state.now agent.n name.now) state.now.worlds)) }
+    ensures { OnOk result (text.new ≡ text.old ++ lines (table (spec.link_line state.now agent.n name.now) state.now.worlds)) }
 {
+    let mut targets = Vec::new(alloc);
     for world in 0..state.worlds() {
-        push_link_line(text, state, agent, name, WorldId { n: world })?;
+        state.read_targets(agent, WorldId { n: world }, &mut targets)?;
+        push_link_line(text, name, world, &targets)?;
     }
     Ok(())
 }
 
 fn push_link_lines(
+    alloc: Global,
     text: &mut TextBuilder,
     state: &State,
     agents: &[Text],
 ) -> Result<(), OutOfMemory>
     requires agents { length agents.now ≡ state.now.agents }
-    ensures { OnOk result (text.new ≡ text.old ++ flat_map line (flat_map (spec.agent_lines state.now agents.now) (table (λ a. a) state.now.agents))) }
+    ensures { OnOk result (text.new ≡ text.old ++ lines (flat_map (spec.agent_lines state.now agents.now) (table (λ a. a) state.now.agents))) }
 {
     for agent in 0..state.agents() {
-        push_agent_lines(text, state, AgentId { n: agent }, &agents[agent as usize])?;
+        push_agent_lines(
+            alloc,
+            text,
+            state,
+            AgentId { n: agent },
+            &agents[agent as usize],
+        )?;
     }
     Ok(())
 }
@@ -150,6 +157,6 @@ pub fn print_state(alloc: Global, task: &Task, state: &State) -> Result<Text, Ou
     text.push("\n")?;
     push_atom_lines(&mut text, task.atom_names())?;
     push_world_lines(&mut text, state)?;
-    push_link_lines(&mut text, state, task.agent_names())?;
+    push_link_lines(alloc, &mut text, state, task.agent_names())?;
     Ok(text.finish())
 }

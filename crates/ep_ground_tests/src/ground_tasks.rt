@@ -1,10 +1,8 @@
-//! Ground tasks: their names and parts, the faults of those that are none, and formulas of them.
+//! Ground tasks: their names and parts, and the faults of those that are none.
 
-use crate::reading::{discard_formula, discard_task, formula_tree, ground_task};
-use ep_ground::{GroundError, Task, ground_formula};
-use ep_logic::{ActionId, AgentId, AtomId, Formula, Node};
-use ep_types::TypeFault;
-use ep_universe::FormulaFault;
+use crate::reading::{discard_task, ground_task};
+use ep_ground::{GroundError, Task};
+use ep_logic::{ActionId, AgentId, AtomId, Node};
 use std::alloc::Global;
 use std::process::Abort;
 use std::test::Fail;
@@ -139,40 +137,4 @@ fn refused_tasks(rt: HostRuntime) -> Result<(), Fail> {
     let nowhere = ground_fault(&rt, rt.alloc(), NOWHERE)?;
     assert!(rt; matches!(nowhere, Some(GroundError::NoDesignated)));
     Ok(())
-}
-
-fn form(
-    rt: &impl Abort,
-    alloc: Global,
-    task: &Task,
-    text: &str,
-) -> Result<Result<Formula, FormulaFault>, Fail> {
-    let tree = formula_tree(rt, alloc, text)?;
-    let formed = ground_formula(alloc, task, &tree);
-    discard_formula(tree);
-    Ok(formed)
-}
-
-fn check_forms(rt: &impl Abort, alloc: Global, task: &Task) -> Result<(), Fail> {
-    let known = form(rt, alloc, task, "knows bob heads")??;
-    assert!(rt; matches!(known.node(), Node::Knows(AgentId { n: 1 }, _)));
-    let other = form(rt, alloc, task, "not tails")?;
-    assert!(rt;
-        matches!(
-            other,
-            Err(FormulaFault::Typing {
-                fault: TypeFault::Unknown,
-                token: 1
-            })
-        )
-    );
-    Ok(())
-}
-
-#[test]
-fn formulas_of_a_ground_task(rt: HostRuntime) -> Result<(), Fail> {
-    let task = ground_task(&rt, rt.alloc(), COIN)??;
-    let told = check_forms(&rt, rt.alloc(), &task);
-    discard_task(task);
-    told
 }

@@ -1,13 +1,17 @@
-//! Tests of ground tasks, their parts and plan files.
+//! Tests of ground tasks, their initial states and formulas, and plan files.
 #![tactic(auto)]
 
 #[cfg(test)]
+mod explicit_states;
+#[cfg(test)]
+mod formulas;
+#[cfg(test)]
 mod ground_tasks;
+#[cfg(test)]
+mod lawful_states;
 #[cfg(test)]
 mod plan_files;
 #[cfg(test)]
 mod reading;
 #[cfg(test)]
 mod state_texts;
-#[cfg(test)]
-mod task_parts;

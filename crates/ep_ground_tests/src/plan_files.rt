@@ -2,10 +2,9 @@
 
 use crate::reading::{discard_task, ground_task};
 use ep_base::List;
-use ep_ground::Task;
+use ep_ground::{Plan, Task};
 use ep_logic::ActionId;
 use ep_plan_text::{Mark, PlanError, print_actions, print_plan, read_plan};
-use ep_problem::Plan;
 use std::alloc::Global;
 use std::process::Abort;
 use std::test::Fail;

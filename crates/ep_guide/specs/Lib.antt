@@ -1,3 +1,2 @@
-pub mod Asked
 pub mod Scores
 pub mod Waitings

@@ -1,7 +1,7 @@
 -- The scores of the guide that counts the goal's parts.
 use Rattle.std.specs.Prelude.{ℕ, ◌+◌, ◌-◌, ◌*◌, min, nat_lt, if◌then◌else◌}
 use Rattle.ep_guide.specs.declared.guide.View.{View}
-use Rattle.ep_guide.specs.Asked.{one_more}
+use Rattle.ep_base.specs.Counts.{one_more}
 
 -- how often a score was asked for, and the least number of unmet parts in a view so far
 pub record Seen : Type 0 where

@@ -1,5 +1,5 @@
 ghost use Rattle.std.specs.Prelude.{◌≡◌, ℕ};
-ghost use Rattle.ep_guide.specs.Asked.{Rose};
+ghost use Rattle.ep_base.specs.Counts.{Rose};
 
 /// What a guide is told of a state: its depth, the numbers of worlds and of designated worlds of its contraction, and
 /// of the goal's parts, how many there are and how many are not true at every designated world.

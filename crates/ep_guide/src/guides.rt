@@ -1,11 +1,11 @@
 ghost use Rattle.std.specs.Prelude.{◌≡◌};
-ghost use Rattle.ep_guide.specs.Asked.{Rose, one_more};
+ghost use Rattle.ep_base.specs.Counts.{Rose, one_more};
 
 use crate::guide::{Guide, View};
 use std::marker::Model;
 
 // A count stays at its greatest value.
-fn raised(count: u64) -> u64
+pub fn raised(count: u64) -> u64
     ensures { result ≡ one_more count }
 {
     count.saturating_add(1)
@@ -45,7 +45,9 @@ impl Guide for ByDepth {
         u64::from(view.depth)
     }
 
-    fn met(&mut self, _depth: u32) {}
+    fn met(&mut self, _depth: u32)
+        ensures { self.new ≡ self.old }
+    {}
 }
 
 /// Scores the number of worlds. Contracts see how often it was asked.
@@ -82,56 +84,7 @@ impl Guide for ByWorlds {
         u64::from(view.worlds)
     }
 
-    fn met(&mut self, _depth: u32) {}
-}
-
-/// Scores the unmet parts, then the depth, and prefers the first state with fewer unmet parts than any before.
-/// Contracts see how often it was asked and the least number of unmet parts so far.
-#[derive(Drop)]
-pub struct ByUnmet {
-    asked: u64,
-    least: u32,
-}
-
-impl Model for ByUnmet {
-    ghost use Rattle.ep_guide.specs.Scores.{Seen};
-
-    ghost Value = { Seen };
-
-    ghost view = { λ g. record { asked = g.asked; least = g.least } };
-}
-
-impl ByUnmet {
-    /// Before the first view the least number of unmet parts is the greatest u32.
-    pub fn new() -> ByUnmet
-        ensures { result ≡ record { asked = 0; least = u32.MAX } }
-    {
-        ByUnmet {
-            asked: 0,
-            least: u32::MAX,
-        }
-    }
-}
-
-impl Guide for ByUnmet {
-    ghost use Rattle.ep_guide.specs.Scores.{unmet_score, with_view};
-
-    ghost asked = { λ g. g.asked };
-
-    fn score(&mut self, view: &View) -> u64
-        ensures score { result ≡ unmet_score self.old view.now }
-        ensures seen { self.new ≡ with_view self.old view.now }
-        ensures rose { Rose self.old.asked self.new.asked }
-    {
-        self.asked = raised(self.asked);
-        let plain = u64::from(view.unmet) * 1024 + u64::from(view.depth);
-        if view.unmet < self.least {
-            self.least = view.unmet;
-            plain.saturating_sub(512)
-        } else {
-            plain
-        }
-    }
-
-    fn met(&mut self, _depth: u32) {}
+    fn met(&mut self, _depth: u32)
+        ensures { self.new ≡ self.old }
+    {}
 }

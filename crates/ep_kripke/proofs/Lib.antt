@@ -1,6 +1,14 @@
 pub mod RowsLemmas
+pub mod WordLemmas
+pub mod RelationLemmas
+pub mod NameLemmas
+pub mod NamingLemmas
 pub mod StateLemmas
 pub mod SortingLemmas
 pub mod PairsLemmas
 pub mod PartsLemmas
 pub mod SameStates
+pub mod SourceLemmas
+pub mod TakingLemmas
+pub mod EquivalenceLemmas
+pub mod CallerLemmas

@@ -2,25 +2,87 @@
 
 ghost use Rattle.std.specs.Prelude.{◌≡◌, ℕ, ◌<◌, ◌≤◌, ◌≢◌, IfOk, length, map, slice_index_or};
 ghost use Rattle.std.specs.List.{AllByRecursion};
-ghost use Rattle.ep_theory.specs.Numbers.{table};
+ghost use Rattle.ep_logic.specs.Numbers.{table};
 ghost use Rattle.ep_theory.specs.Rising.{IsRising};
 ghost use Rattle.ep_theory.specs.Kripke.{pair_cmp};
-ghost use Rattle.ep_kripke.specs.Rows.{all_pairs};
-ghost use Rattle.ep_kripke.specs.States.{HaveRows};
+ghost use Rattle.ep_theory.specs.Relations.{all_pairs};
+ghost use Rattle.ep_kripke.specs.declared.limits.TheConstants.{MOST_WORLDS};
+ghost use Rattle.ep_kripke.specs.States.{HaveRows, AreRow};
 ghost use Rattle.ep_kripke.specs.Parts.{joined_pairs, linked_pairs, named_worlds};
 
+use crate::naming::Naming;
 use crate::parts::Link;
+use crate::relation::Relation;
 use crate::rows::Rows;
-use ep_logic::{List, OutOfMemory, WorldId};
-use std::alloc::Global;
+use ep_logic::{BitTable, Bits, List, OutOfMemory, WorldId};
+use std::alloc::{AllocError, Global};
+use std::rc::Rc;
+
+// The truth rows in one table.
+pub(crate) fn shared_truth(
+    alloc: Global,
+    atoms: u32,
+    rows: &[Bits],
+) -> Result<Rc<BitTable>, OutOfMemory>
+    requires few { length rows.now ≤ MOST_WORLDS }
+    requires width { AllByRecursion (λ row. length row ≡ atoms) rows.now }
+    ensures { IfOk result (λ t. t.value ≡ record { width = atoms; rows = rows.now }) }
+{
+    let table = truth_table(alloc, atoms, rows)?;
+    Ok(Rc::new(alloc, table).map_err(AllocError::from)?)
+}
+
+fn truth_table(alloc: Global, atoms: u32, rows: &[Bits]) -> Result<BitTable, OutOfMemory>
+    requires few { length rows.now ≤ MOST_WORLDS }
+    requires width { AllByRecursion (λ row. length row ≡ atoms) rows.now }
+    ensures { IfOk result (λ t. t ≡ record { width = atoms; rows = rows.now }) }
+{
+    let mut table = BitTable::zeros(alloc, 0, atoms)?;
+    for row in rows {
+        table.push(row.words())?;
+    }
+    Ok(table)
+}
+
+// The links of each agent, named.
+pub(crate) fn named_relations(
+    alloc: Global,
+    worlds: u32,
+    relations: &[Rows],
+) -> Result<List<Relation>, OutOfMemory>
+    requires worlds { worlds ≤ MOST_WORLDS }
+    requires rows { HaveRows worlds relations.now }
+    requires fit { AllByRecursion (AllByRecursion (AreRow worlds)) relations.now }
+    ensures { IfOk result (λ named. named ≡ relations.now) }
+{
+    let mut named = List::new(alloc);
+    for rows in relations {
+        named.push(named_rows_of(alloc, worlds, rows)?)?;
+    }
+    Ok(named)
+}
+
+fn named_rows_of(alloc: Global, worlds: u32, rows: &Rows) -> Result<Relation, OutOfMemory>
+    requires worlds { worlds ≤ MOST_WORLDS }
+    requires rows { length rows.now ≡ worlds }
+    requires fit { AllByRecursion (AreRow worlds) rows.now }
+    ensures { IfOk result (λ named. named ≡ rows.now) }
+{
+    let mut naming = Naming::new(alloc, worlds)?;
+    for at in 0..rows.len() {
+        naming.push(rows.row(at))?;
+    }
+    naming.finish(alloc)
+}
 
 pub(crate) fn relations_of(
     alloc: Global,
     agents: u32,
     worlds: u32,
     links: &[Link],
-) -> Result<List<Rows>, OutOfMemory>
-    requires { AllByRecursion (λ l. (l.from.n < worlds) × (l.to.n < worlds)) links.now }
+) -> Result<List<Relation>, OutOfMemory>
+    requires worlds { worlds ≤ MOST_WORLDS }
+    requires within { AllByRecursion (λ l. (l.from.n < worlds) × (l.to.n < worlds)) links.now }
     ensures pairs { IfOk result (λ relations. map all_pairs relations ≡ table (linked_pairs links.now) agents) }
     ensures rows { IfOk result (HaveRows worlds) }
 {
@@ -32,8 +94,9 @@ pub(crate) fn relations_of(
 }
 
 // The successors of each world by the agent's links.
-fn relation(alloc: Global, agent: u32, worlds: u32, links: &[Link]) -> Result<Rows, OutOfMemory>
-    requires { AllByRecursion (λ l. (l.from.n < worlds) × (l.to.n < worlds)) links.now }
+fn relation(alloc: Global, agent: u32, worlds: u32, links: &[Link]) -> Result<Relation, OutOfMemory>
+    requires worlds { worlds ≤ MOST_WORLDS }
+    requires within { AllByRecursion (λ l. (l.from.n < worlds) × (l.to.n < worlds)) links.now }
     ensures pairs { IfOk result (λ rows. all_pairs rows ≡ linked_pairs links.now agent) }
     ensures rows { IfOk result (λ rows. length rows ≡ worlds) }
 {
@@ -64,21 +127,22 @@ fn joined(alloc: Global, agent: u32, links: &[Link]) -> Result<Vec<(u32, u32)>, 
 }
 
 // Pairs in rising order, as a row for each world.
-fn rows_of(alloc: Global, worlds: u32, pairs: &[(u32, u32)]) -> Result<Rows, OutOfMemory>
+fn rows_of(alloc: Global, worlds: u32, pairs: &[(u32, u32)]) -> Result<Relation, OutOfMemory>
+    requires worlds { worlds ≤ MOST_WORLDS }
     requires rising { IsRising pair_cmp pairs.now }
-    requires within { AllByRecursion (λ p. p.0 < worlds) pairs.now }
+    requires within { AllByRecursion (λ p. (p.0 < worlds) × (p.1 < worlds)) pairs.now }
     ensures pairs { IfOk result (λ rows. all_pairs rows ≡ pairs.now) }
     ensures rows { IfOk result (λ rows. length rows ≡ worlds) }
 {
-    let mut rows = Rows::new(alloc);
+    let mut naming = Naming::new(alloc, worlds)?;
     let mut at = 0;
     for world in 0..worlds {
         let end = end_of(pairs, at, world);
         let row = seconds(alloc, &pairs[at..end])?;
-        rows.push(&row)?;
+        naming.push(&row)?;
         at = end;
     }
-    Ok(rows)
+    naming.finish(alloc)
 }
 
 // Where the pairs of a world end that begin at a place.

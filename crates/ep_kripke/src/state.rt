@@ -1,27 +1,37 @@
-ghost use Rattle.std.specs.Prelude.{◌≡◌, ◌<◌, ◌↔◌, ◌≤◌, ◌^◌, None, IsTrue, IfOk, OnOk, IfErr, length, map, sum_by};
+ghost use Rattle.std.specs.Prelude.{◌≡◌, ◌≢◌, ℕ, ◌<◌, ◌↔◌, ◌≤◌, ◌^◌, ◌++◌, [], slice_index_or, None, IsTrue, IfOk, OnOk, IfErr, length, map, sum_by};
 ghost use Rattle.std.specs.Ordering.{nat_cmp};
+ghost use Rattle.std.specs.List.{AllByRecursion, list_all};
+ghost use Rattle.ep_logic.specs.Packed.{unpacked, IsPacked};
+ghost use Rattle.ep_logic.specs.Rows.{value_at};
+ghost use Rattle.ep_logic.specs.declared.limits.TheConstants.{MOST_AGENTS, MOST_ATOMS};
+ghost use Rattle.ep_kripke.specs.declared.limits.TheConstants.{MOST_WORLDS};
 ghost use Rattle.ep_theory.specs.Rising.{IsIn, IsRising};
-ghost use Rattle.ep_theory.specs.Kripke.{Kripke, IsState, atom_at, links_of, successors};
+ghost use Rattle.ep_theory.specs.Kripke.{Kripke, IsState, atom_at, truth_of, links_of, successors};
+ghost use Rattle.ep_theory.specs.Relations.{all_pairs};
+ghost use Rattle.ep_theory.specs.Equivalences.{IsS5};
 ghost use Rattle.ep_theory.specs.Fits.{link_count};
 ghost use Rattle.ep_kripke.specs.States.{IsBounded};
 ghost use Rattle.ep_kripke.specs.Parts.{world};
 
-use crate::build::{named_of, relations_of};
+use crate::build::{named_of, named_relations, relations_of, shared_truth};
 use crate::parts::{StateError, StateParts, check};
+use crate::relation::Relation;
+use crate::row_set::finds;
 use crate::rows::Rows;
-use ep_logic::{AgentId, AtomId, Bits, List, OutOfMemory, WorldId};
+use ep_logic::{AgentId, AtomId, BitTable, Bits, List, OutOfMemory, WorldId};
 use std::alloc::Global;
+use std::fmt;
 use std::marker::Model;
+use std::rc::Rc;
 
 /// A finite Kripke state, which contracts see as plain data. It has at most 65,536 worlds, 8 agents and 256 atoms, and
 /// fewer than 2^32 links. The source is van Ditmarsch, van der Hoek and Kooi, *Dynamic Epistemic Logic*, chapter 2; a
 /// set of designated worlds, never empty, is this project's own.
-#[derive(Debug)]
 pub struct State {
     agents: u32,
     atoms: u32,
-    truth: List<Bits>,
-    relations: List<Rows>,
+    truth: Rc<BitTable>,
+    relations: List<Relation>,
     designated: List<u32>,
     links: u64,
 }
@@ -39,34 +49,47 @@ impl Drop for State {
     }
 }
 
+impl fmt::Debug for State {
+    fn fmt<W: fmt::Write>(&self, f: &mut fmt::Formatter<W>) -> fmt::Result {
+        write!(
+            f,
+            "State {{ worlds: {}, agents: {} }}",
+            self.worlds(),
+            self.agents()
+        )
+    }
+}
+
 impl Model for State {
+    ghost use Rattle.std.specs.Prelude.{◌≡◌};
     ghost use Rattle.ep_theory.specs.Kripke.{Kripke};
 
     ghost Value = { Kripke };
 
     ghost use Rattle.ep_kripke.specs.States.{state_of, IsKept};
 
-    ghost view = { λ s. state_of s.agents s.atoms s.truth s.relations s.designated };
+    ghost view = { λ s. state_of s.agents s.atoms s.truth.value.rows s.relations s.designated };
 
-    ghost invariant = { λ s. IsKept s.agents s.atoms s.truth s.relations s.designated s.links };
+    ghost invariant = { λ s. IsKept s.agents s.atoms s.truth.value.rows s.relations s.designated s.links × (s.truth.value.width ≡ s.atoms) };
 }
 
 impl State {
     ghost use Rattle.ep_kripke.specs.States.{state_of, HaveRows};
-    ghost use Rattle.ep_kripke.specs.Parts.{fault_of, IsMadeOf, IsRefusal};
+    ghost use Rattle.ep_base.specs.Refusals.{IsRefusal};
+    ghost use Rattle.ep_kripke.specs.Parts.{fault_of, IsMadeOf};
 
     /// The state with these parts, each link and designated world once.
     pub fn build(alloc: Global, parts: StateParts) -> Result<State, StateError>
-        requires agents { parts.agents ≤ 8 }
-        requires atoms { parts.atoms ≤ 256 }
-        requires truth { length parts.truth ≤ 65536 }
+        requires agents { parts.agents ≤ MOST_AGENTS }
+        requires atoms { parts.atoms ≤ MOST_ATOMS }
+        requires truth { length parts.truth ≤ MOST_WORLDS }
         requires links { length parts.links < 2 ^ 32 }
         requires designated { length parts.designated < 2 ^ 32 }
         ensures made { IfOk result (IsMadeOf parts) }
         ensures valid { IfOk result IsState }
         ensures bounded { IfOk result IsBounded }
         ensures ok { OnOk result (fault_of parts ≡ None) }
-        ensures err { IfErr result (IsRefusal parts) }
+        ensures err { IfErr result (IsRefusal StateError.OutOfMemory (fault_of parts)) }
     {
         check(&parts)?;
         let StateParts {
@@ -79,22 +102,45 @@ impl State {
         let worlds = truth.as_slice().len() as u32;
         let relations = relations_of(alloc, agents, worlds, links.as_slice())?;
         let designated = named_of(alloc, designated.as_slice())?;
-        Ok(State::from_rows(agents, atoms, truth, relations, designated))
+        let truth = shared_truth(alloc, atoms, truth.as_slice())?;
+        Ok(State::from_relations(agents, atoms, truth, relations, designated))
     }
 
-    /// The state with these rows: for each agent, for each world, its successors in rising order. It takes no memory
-    /// and sorts nothing: this project's own addition, for states that are made from states.
+    /// The state with these rows: for each agent, for each world, its successors in rising order. It sorts nothing:
+    /// this project's own addition, for states that are made from states.
     pub fn from_rows(
+        alloc: Global,
         agents: u32,
         atoms: u32,
         truth: List<Bits>,
         relations: List<Rows>,
         designated: List<u32>,
-    ) -> State
+    ) -> Result<State, OutOfMemory>
         requires rows { HaveRows (length truth) relations }
         requires valid { IsState (state_of agents atoms truth relations designated) }
         requires bounded { IsBounded (state_of agents atoms truth relations designated) }
-        ensures { result ≡ state_of agents atoms truth relations designated }
+        ensures { IfOk result (λ s. s ≡ state_of agents atoms truth relations designated) }
+    {
+        let worlds = truth.as_slice().len() as u32;
+        let named = named_relations(alloc, worlds, relations.as_slice())?;
+        let truth = shared_truth(alloc, atoms, truth.as_slice())?;
+        Ok(State::from_relations(agents, atoms, truth, named, designated))
+    }
+
+    /// The state with these truth values and links. It takes no memory: this project's own addition, for states that
+    /// are made from states.
+    pub fn from_relations(
+        agents: u32,
+        atoms: u32,
+        truth: Rc<BitTable>,
+        relations: List<Relation>,
+        designated: List<u32>,
+    ) -> State
+        requires width { truth.value.width ≡ atoms }
+        requires rows { HaveRows (length truth.value.rows) relations }
+        requires valid { IsState (state_of agents atoms truth.value.rows relations designated) }
+        requires bounded { IsBounded (state_of agents atoms truth.value.rows relations designated) }
+        ensures { result ≡ state_of agents atoms truth.value.rows relations designated }
     {
         let links = total_of(relations.as_slice());
         State {
@@ -107,12 +153,45 @@ impl State {
         }
     }
 
+    /// The same state with other designated worlds.
+    pub fn designating(self, designated: List<u32>) -> State
+        requires rising { IsRising nat_cmp designated }
+        requires within { AllByRecursion (λ w. w < self.worlds) designated }
+        requires some { designated ≢ [] }
+        ensures { result ≡ record self { designated = designated } }
+    {
+        let State {
+            agents,
+            atoms,
+            truth,
+            relations,
+            designated: _designated,
+            links,
+        } = self;
+        State {
+            agents,
+            atoms,
+            truth,
+            relations,
+            designated,
+            links,
+        }
+    }
+
+    /// What is known of every state. It does nothing: a proof calls it where the code asks nothing of the state.
+    pub fn known(&self)
+        ensures valid { IsState self.now }
+        ensures bounded { IsBounded self.now }
+    {
+        let _agents = self.agents;
+    }
+
     pub fn worlds(&self) -> u32
         ensures value { result ≡ self.now.worlds }
         ensures valid { IsState self.now }
         ensures bounded { IsBounded self.now }
     {
-        self.truth.as_slice().len() as u32
+        self.truth.len()
     }
 
     pub fn agents(&self) -> u32
@@ -147,22 +226,71 @@ impl State {
         ensures valid { IsState self.now }
         ensures bounded { IsBounded self.now }
     {
-        let rows = self.truth.as_slice();
-        let row = &rows[w.n as usize];
-        row.get(p.n)
+        self.truth.get(w.n, p.n)
     }
 
-    /// The worlds to which the agent links the world, in rising order, without memory: this project's own addition.
-    pub fn targets(&self, a: AgentId, w: WorldId) -> &[u32]
-        requires agent { a.n < self.now.agents }
+    /// The truth values of a world in words of 64 bits: this project's own addition.
+    pub fn truth_words(&self, w: WorldId) -> &[u64]
         requires world { w.n < self.now.worlds }
-        ensures value { result.now ≡ successors (links_of self.now a.n) w.n }
+        ensures packed { IsPacked result.now self.now.atoms }
+        ensures value { unpacked result.now self.now.atoms ≡ truth_of self.now w.n }
+        ensures valid { IsState self.now }
+        ensures bounded { IsBounded self.now }
+    {
+        self.truth.row(w.n)
+    }
+
+    /// The agent's links: this project's own addition.
+    pub fn relation(&self, a: AgentId) -> &Relation
+        requires agent { a.n < self.now.agents }
+        ensures rows { length result.now ≡ self.now.worlds }
+        ensures pairs { all_pairs result.now ≡ links_of self.now a.n }
+        ensures each { (w : ℕ) → w < self.now.worlds →
+            slice_index_or result.now w [] ≡ successors (links_of self.now a.n) w }
         ensures valid { IsState self.now }
         ensures bounded { IsBounded self.now }
     {
         let relations = self.relations.as_slice();
-        let rows = &relations[a.n as usize];
-        rows.row(w.n as usize)
+        &relations[a.n as usize]
+    }
+
+    /// Puts the worlds to which the agent links the world at the end, in rising order: this project's own addition.
+    pub fn put_targets(&self, a: AgentId, w: WorldId, out: &mut Vec<u32>) -> Result<(), OutOfMemory>
+        requires agent { a.n < self.now.agents }
+        requires world { w.n < self.now.worlds }
+        ensures value { OnOk result (out.new.items ≡ out.old.items ++ successors (links_of self.now a.n) w.n) }
+        ensures valid { IsState self.now }
+        ensures bounded { IsBounded self.now }
+    {
+        self.relation(a).put_row(w.n, out)
+    }
+
+    /// Puts the worlds to which the agent links the world in place of what was there: this project's own addition.
+    pub fn read_targets(
+        &self,
+        a: AgentId,
+        w: WorldId,
+        out: &mut Vec<u32>,
+    ) -> Result<(), OutOfMemory>
+        requires agent { a.n < self.now.agents }
+        requires world { w.n < self.now.worlds }
+        ensures value { OnOk result (out.new.items ≡ successors (links_of self.now a.n) w.n) }
+        ensures valid { IsState self.now }
+        ensures bounded { IsBounded self.now }
+    {
+        out.clear();
+        self.put_targets(a, w, out)
+    }
+
+    /// Whether the set is true at each world to which the agent links the world: this project's own addition.
+    pub fn links_within(&self, a: AgentId, w: WorldId, set: &Bits) -> bool
+        requires agent { a.n < self.now.agents }
+        requires world { w.n < self.now.worlds }
+        ensures value { result ≡ list_all (value_at set.now) (successors (links_of self.now a.n) w.n) }
+        ensures valid { IsState self.now }
+        ensures bounded { IsBounded self.now }
+    {
+        self.relation(a).within(w.n, set)
     }
 
     /// Whether the agent links `w` to `v`.
@@ -173,10 +301,10 @@ impl State {
         ensures valid { IsState self.now }
         ensures bounded { IsBounded self.now }
     {
-        finds(self.targets(a, w), v.n)
+        self.relation(a).has(w.n, v.n)
     }
 
-    /// The same worlds as `targets`, as a list of their own.
+    /// The worlds to which the agent links the world, in rising order.
     pub fn successors(
         &self,
         alloc: Global,
@@ -189,7 +317,23 @@ impl State {
         ensures valid { IsState self.now }
         ensures bounded { IsBounded self.now }
     {
-        Ok(List::from_vec(world_ids(alloc, self.targets(a, w))?))
+        let mut targets = Vec::new(alloc);
+        self.put_targets(a, w, &mut targets)?;
+        Ok(List::from_vec(world_ids(alloc, &targets)?))
+    }
+
+    /// Whether the links of every agent are an equivalence of the worlds. It takes no memory.
+    pub fn is_s5(&self) -> bool
+        ensures value { IsTrue result ↔ IsS5 self.now }
+        ensures valid { IsState self.now }
+        ensures bounded { IsBounded self.now }
+    {
+        for a in 0..self.agents() {
+            if !self.relation(AgentId { n: a }).is_equivalence() {
+                return false;
+            }
+        }
+        true
     }
 
     /// The designated worlds, in rising order: this project's own addition.
@@ -212,7 +356,7 @@ impl State {
     pub fn copy(&self, alloc: Global) -> Result<State, OutOfMemory>
         ensures { IfOk result (λ s. s ≡ self.now) }
     {
-        let truth = copied_truth(alloc, self.truth.as_slice())?;
+        let truth = self.truth.clone()?;
         let relations = copied_relations(alloc, self.relations.as_slice())?;
         let designated = Vec::from_slice(alloc, self.designated.as_slice())?;
         Ok(State {
@@ -227,19 +371,11 @@ impl State {
 }
 
 // The number of links of all agents.
-fn total_of(relations: &[Rows]) -> u64
+fn total_of(relations: &[Relation]) -> u64
     requires { sum_by (sum_by length) relations.now < 2 ^ 64 }
     ensures { result ≡ sum_by (sum_by length) relations.now }
 {
-    relations.iter().map(|rows| rows.total() as u64).sum()
-}
-
-// Whether a number stands in a rising list.
-fn finds(numbers: &[u32], number: u32) -> bool
-    requires { IsRising nat_cmp numbers.now }
-    ensures { IsTrue result ↔ IsIn number numbers.now }
-{
-    numbers.binary_search(&number).is_ok()
+    relations.iter().map(|relation| relation.total()).sum()
 }
 
 fn world_ids(alloc: Global, numbers: &[u32]) -> Result<Vec<WorldId>, OutOfMemory>
@@ -248,22 +384,12 @@ fn world_ids(alloc: Global, numbers: &[u32]) -> Result<Vec<WorldId>, OutOfMemory
     Ok(numbers.iter().map(|n| WorldId { n: *n }).collect(alloc)?)
 }
 
-fn copied_truth(alloc: Global, truth: &[Bits]) -> Result<List<Bits>, OutOfMemory>
-    ensures { IfOk result (λ rows. rows ≡ truth.now) }
-{
-    let mut rows = List::new(alloc);
-    for row in truth {
-        rows.push(row.copy(alloc)?)?;
-    }
-    Ok(rows)
-}
-
-fn copied_relations(alloc: Global, relations: &[Rows]) -> Result<List<Rows>, OutOfMemory>
+fn copied_relations(alloc: Global, relations: &[Relation]) -> Result<List<Relation>, OutOfMemory>
     ensures { IfOk result (λ all. all ≡ relations.now) }
 {
     let mut all = List::new(alloc);
-    for rows in relations {
-        all.push(rows.copy(alloc)?)?;
+    for relation in relations {
+        all.push(relation.share()?)?;
     }
     Ok(all)
 }

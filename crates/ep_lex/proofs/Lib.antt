@@ -5,3 +5,4 @@ pub mod TokenLaws
 pub mod Progress
 pub mod Faults
 pub mod LaidOut
+pub mod CallerLemmas

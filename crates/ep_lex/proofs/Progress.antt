@@ -15,7 +15,8 @@ use Rattle.ep_lex.specs.declared.token.PieceKind.TheVariants.{Blank, Comment, Sp
 use Rattle.ep_lex.specs.declared.token.Token.{Token}
 use Rattle.ep_lex.specs.Pieces.{is_line_feed, is_blank, is_letter, is_digit, is_word_byte, is_comment_byte, is_mark_byte, is_piece, Piece, Split, IsStray}
 use Rattle.ep_lex.specs.Scan.{scan, lengths}
-use Rattle.ep_lex.specs.Tokens.{token_behind, tokens_behind, line_behind, AreTokens, HasTooManyTokens}
+use Rattle.ep_lex.specs.Tokens.{token_behind, tokens_behind, line_behind, AreTokens, Lexed, AreLexed, HasTooManyTokens}
+use Rattle.ep_lex.specs.declared.limits.TheConstants.{MOST_TOKENS}
 use Rattle.ep_lex.proofs.Splits.{long, IsFront, front-scanned, stray-scanned}
 use Rattle.ep_lex.proofs.Prefixes.{joined, StandBefore, joined-push, StandBefore-push, StandBefore-split, StandBefore-stray}
 use Rattle.ep_lex.proofs.TokenLaws.{tokens_behind-append}
@@ -28,7 +29,7 @@ pub record IsReadTo (bytes : List ℕ) (at line count : ℕ) (kept : List Token)
   pub within : at ≤ length bytes
   pub line_is : line ≡ line_behind (take at bytes)
   pub count_is : count ≡ length (tokens_behind [] pieces)
-  pub kept_are : kept ≡ take 262144 (tokens_behind [] pieces)
+  pub kept_are : kept ≡ take MOST_TOKENS (tokens_behind [] pieces)
   pub few : count ≤ at
 
 -- the text in front of the next piece, and the piece
@@ -82,7 +83,7 @@ module _ (bytes : List ℕ) (at line count : ℕ) (kept : List Token) (r : IsRea
 
   -- the next piece is read
   step : (line' count' : ℕ) (kept' : List Token) → line' ≡ line + count_by is_line_feed n.text → count' ≡ count + length new_tokens
-      → kept' ≡ take 262144 (tokens_behind [] r.pieces ++ new_tokens) → length new_tokens ≤ 1 → IsReadTo bytes (at + len) line' count' kept'
+      → kept' ≡ take MOST_TOKENS (tokens_behind [] r.pieces ++ new_tokens) → length new_tokens ≤ 1 → IsReadTo bytes (at + len) line' count' kept'
   step line' count' kept' l c k m = record {
     pieces = r.pieces ++ this_piece ∷ [];
     before = stands;
@@ -90,7 +91,7 @@ module _ (bytes : List ℕ) (at line count : ℕ) (kept : List Token) (r : IsRea
     within = next-within.0;
     line_is = l ∙ lines_now;
     count_is = omega (arith, c, r.count_is, ap length tokens_now, length-append (tokens_behind [] r.pieces) new_tokens);
-    kept_are = k ∙ ap (take 262144) (sym tokens_now);
+    kept_are = k ∙ ap (take MOST_TOKENS) (sym tokens_now);
     few = omega (arith, c, m, r.few, next-within.1);
   }
 
@@ -164,14 +165,14 @@ IsReadTo-blank bytes at line count len kept r n =
     let here : get_or (drop at bytes) 0 0 ≡ get_or bytes at 0 = get_or-drop at bytes 0 0 ∙ ap (λ z. get_or bytes z 0) (omega arith) in
     let feeds = blank_feeds n.text n.rest (drop at bytes) n.bytes_are n.piece ∙ ap (λ z. cond {A = ℕ} (is_line_feed z) 1 0) here in
     step bytes at line count kept r Blank len n (line + cond (is_line_feed (get_or bytes at 0)) 1 0) count kept
-    (ap (λ z. line + z) (sym feeds)) (omega arith) (r.kept_are ∙ ap (take 262144) (sym (append-nil (tokens_behind [] r.pieces)))) (omega arith)
+    (ap (λ z. line + z) (sym feeds)) (omega arith) (r.kept_are ∙ ap (take MOST_TOKENS) (sym (append-nil (tokens_behind [] r.pieces)))) (omega arith)
 
 pub IsReadTo-comment : (bytes : List ℕ) (at line count len : ℕ) (kept : List Token) → IsReadTo bytes at line count kept → IsFront (drop at bytes) Comment len
     → IsReadTo bytes (at + len) line count kept
 unfolding new_tokens
 IsReadTo-comment bytes at line count len kept r n =
     step bytes at line count kept r Comment len n line count kept
-    (omega (arith, comment_feeds n.text n.piece)) (omega arith) (r.kept_are ∙ ap (take 262144) (sym (append-nil (tokens_behind [] r.pieces)))) (omega arith)
+    (omega (arith, comment_feeds n.text n.piece)) (omega arith) (r.kept_are ∙ ap (take MOST_TOKENS) (sym (append-nil (tokens_behind [] r.pieces)))) (omega arith)
 
 -- what is kept of a list with one more item
 kept_below : (most : ℕ) (ts : List Token) (t : Token) → length ts < most → take most ts ++ t ∷ [] ≡ take most (ts ++ t ∷ [])
@@ -191,21 +192,21 @@ module _ (bytes : List ℕ) (at line count len : ℕ) (kept : List Token) (r : I
       ∙ ap (λ z. record { kind = kind; start = at; len = z; line = line_behind (joined r.pieces) } ∷ []) n.length_is
       ∙ ap (λ z. record { kind = kind; start = at; len = len; line = z } ∷ []) (ap line_behind r.joined_is ∙ sym r.line_is)
 
-  kept_now : (b : Bool) → (b ≡ true → count < 262144) → (b ≡ false → 262144 ≤ count)
-      → cond b (kept ++ token ∷ []) kept ≡ take 262144 (tokens_behind [] r.pieces ++ token_behind (joined r.pieces) (Spelling kind) n.text)
+  kept_now : (b : Bool) → (b ≡ true → count < MOST_TOKENS) → (b ≡ false → MOST_TOKENS ≤ count)
+      → cond b (kept ++ token ∷ []) kept ≡ take MOST_TOKENS (tokens_behind [] r.pieces ++ token_behind (joined r.pieces) (Spelling kind) n.text)
   kept_now true l g =
-      ap (λ z. z ++ token ∷ []) r.kept_are ∙ kept_below 262144 (tokens_behind [] r.pieces) token (omega (arith, l refl, r.count_is))
-      ∙ ap (λ z. take 262144 (tokens_behind [] r.pieces ++ z)) (sym token_is)
+      ap (λ z. z ++ token ∷ []) r.kept_are ∙ kept_below MOST_TOKENS (tokens_behind [] r.pieces) token (omega (arith, l refl, r.count_is))
+      ∙ ap (λ z. take MOST_TOKENS (tokens_behind [] r.pieces ++ z)) (sym token_is)
   kept_now false l g =
-      r.kept_are ∙ sym (take-append-le 262144 (tokens_behind [] r.pieces) (token_behind (joined r.pieces) (Spelling kind) n.text) (omega (arith, g refl, r.count_is)))
+      r.kept_are ∙ sym (take-append-le MOST_TOKENS (tokens_behind [] r.pieces) (token_behind (joined r.pieces) (Spelling kind) n.text) (omega (arith, g refl, r.count_is)))
 
   pub IsReadTo-spelling : IsReadTo bytes (at + len) line (count + 1)
-      (cond (nat_lt count 262144) (kept ++ record { kind = kind; start = at; len = len; line = line } ∷ []) kept)
+      (cond (nat_lt count MOST_TOKENS) (kept ++ record { kind = kind; start = at; len = len; line = line } ∷ []) kept)
   unfolding new_tokens token
   IsReadTo-spelling =
-      step bytes at line count kept r (Spelling kind) len n line (count + 1) (cond (nat_lt count 262144) (kept ++ token ∷ []) kept)
+      step bytes at line count kept r (Spelling kind) len n line (count + 1) (cond (nat_lt count MOST_TOKENS) (kept ++ token ∷ []) kept)
       (omega (arith, spelling_feeds kind n.text n.piece)) (omega arith)
-      (kept_now (nat_lt count 262144) (ltb-true count 262144) (ltb-false count 262144))
+      (kept_now (nat_lt count MOST_TOKENS) (ltb-true count MOST_TOKENS) (ltb-false count MOST_TOKENS))
       (omega arith)
 
 -- At the end of the text its tokens are found.
@@ -223,8 +224,8 @@ module _ (bytes : List ℕ) (at line count : ℕ) (kept : List Token) (r : IsRea
     tokens_are = refl;
   }
 
-  pub kept_all : count ≤ 262144 → AreTokens bytes kept
-  kept_all l = subst (AreTokens bytes) (sym (r.kept_are ∙ take_all 262144 (tokens_behind [] r.pieces) (omega (arith, r.count_is)))) all_tokens
+  pub kept_all : count ≤ MOST_TOKENS → AreTokens bytes kept
+  kept_all l = subst (AreTokens bytes) (sym (r.kept_are ∙ take_all MOST_TOKENS (tokens_behind [] r.pieces) (omega (arith, r.count_is)))) all_tokens
 
   pub line_of_end : line ≡ line_behind bytes
   line_of_end = r.line_is ∙ ap line_behind all_taken
@@ -257,8 +258,17 @@ pub stray_within : (bytes : List ℕ) (at line count : ℕ) (kept : List Token) 
     → Err k ≡ lengths (scan (take (length bytes - at) (drop at bytes))) → at + k < length bytes
 stray_within bytes at line count kept r l k e = let s = stray_at bytes at line count kept r l k e in s.within
 
-pub kept_few : (bytes : List ℕ) (at line count : ℕ) (kept : List Token) → IsReadTo bytes at line count kept → length kept ≤ 262144
-kept_few bytes at line count kept r = omega (arith, ap length r.kept_are, length-take 262144 (tokens_behind [] r.pieces))
+pub kept_few : (bytes : List ℕ) (at line count : ℕ) (kept : List Token) → IsReadTo bytes at line count kept → length kept ≤ MOST_TOKENS
+kept_few bytes at line count kept r = omega (arith, ap length r.kept_are, length-take MOST_TOKENS (tokens_behind [] r.pieces))
+
+-- the tokens that are kept, with the line behind them
+pub lexed : (bytes : List ℕ) (at line count : ℕ) (kept : List Token) → IsReadTo bytes at line count kept → length bytes ≤ at → count ≤ MOST_TOKENS
+    → (found : Lexed) → found.tokens ≡ kept → found.end_line ≡ line → AreLexed bytes found
+lexed bytes at line count kept r ended few found t l = record {
+  tokens = subst (AreTokens bytes) (sym t) (kept_all bytes at line count kept r ended few);
+  few = subst (λ ts. length ts ≤ MOST_TOKENS) (sym t) (kept_few bytes at line count kept r);
+  end_line = l ∙ line_of_end bytes at line count kept r ended;
+}
 
 pub IsReadTo-along : (bytes : List ℕ) (at line count line' count' : ℕ) (kept kept' : List Token) → line' ≡ line → count' ≡ count → kept' ≡ kept
     → IsReadTo bytes at line count kept → IsReadTo bytes at line' count' kept'
@@ -274,6 +284,6 @@ IsReadTo-along bytes at line count line' count' kept kept' l c k r = record {
 }
 
 -- more tokens are counted than may be kept
-pub too_many : (bytes : List ℕ) (at line count : ℕ) (kept : List Token) → IsReadTo bytes at line count kept → length bytes ≤ at → 262144 < count → HasTooManyTokens bytes
+pub too_many : (bytes : List ℕ) (at line count : ℕ) (kept : List Token) → IsReadTo bytes at line count kept → length bytes ≤ at → MOST_TOKENS < count → HasTooManyTokens bytes
 too_many bytes at line count kept r e l =
     (tokens_behind [] r.pieces, all_tokens bytes at line count kept r e, omega (arith, r.count_is))

@@ -8,13 +8,19 @@ use Rattle.ep_lex.specs.declared.token.PieceKind.TheVariants.{Blank, Comment, Sp
 use Rattle.ep_lex.specs.declared.token.TokenKind.{TokenKind}
 use Rattle.ep_lex.specs.declared.token.Token.{Token}
 use Rattle.ep_lex.specs.Pieces.{is_piece, Piece, Split}
-use Rattle.ep_lex.specs.Tokens.{token_behind, tokens_behind, line_behind, AreTokens, spelling, spellings}
+use Rattle.ep_lex.specs.Tokens.{token_behind, tokens_behind, line_behind, AreTokens, Lexed, AreLexed, spelling, spellings}
 use Rattle.ep_lex.proofs.Scanned.{Split-same}
 use Rattle.ep_lex.proofs.Prefixes.{joined}
 
 -- A text has one list of tokens.
 pub tokens-unique : (bytes : List ℕ) (ts us : List Token) → AreTokens bytes ts → AreTokens bytes us → ts ≡ us
 tokens-unique bytes ts us t u = t.tokens_are ∙ ap (tokens_behind []) (Split-same bytes t.pieces u.pieces t.split u.split) ∙ sym u.tokens_are
+
+pub lexed-unique : (bytes : List ℕ) (f g : Lexed) → AreLexed bytes f → AreLexed bytes g → f ≡ g
+lexed-unique bytes f g p q =
+    let tokens = tokens-unique bytes f.tokens g.tokens p.tokens q.tokens in
+    let line = p.end_line ∙ sym q.end_line in
+    λ i. record { tokens = tokens i; end_line = line i }
 
 pub tokens_behind-append : (before : List ℕ) (ps qs : List Piece) → tokens_behind before (ps ++ qs) ≡ tokens_behind before ps ++ tokens_behind (before ++ joined ps) qs
 tokens_behind-append before [] qs = ap (λ z. tokens_behind z qs) (sym (append-nil before))

@@ -1,6 +1,7 @@
 -- The pieces of a text: blanks, comments and the spellings of tokens.
-use Rattle.std.specs.Prelude.{◌≡◌, ℕ, ◌<◌, ◌⊎◌, ◌==◌, nat_le, ◌&&◌, ◌||◌, not, Bool, true, false, IsTrue, IsFalse, Option, Some, None, IfSome, IsSomeAnd, List, [], ◌∷◌, ◌++◌, length, take, drop, slice_index}
+use Rattle.std.specs.Prelude.{◌≡◌, ℕ, ◌-◌, ◌<◌, ◌⊎◌, ◌==◌, nat_le, ◌&&◌, ◌||◌, not, Bool, true, false, IsTrue, IsFalse, Option, Some, None, IfSome, IsSomeAnd, List, [], ◌∷◌, ◌++◌, length, take, drop, slice_index}
 use Rattle.std.specs.List.{list_all}
+use Rattle.ep_lex.specs.declared.limits.TheConstants.{MOST_DIGITS, MOST_WORD_BYTES}
 use Rattle.ep_lex.specs.declared.token.TokenKind.TheVariants.{Word, Number, Mark}
 use Rattle.ep_lex.specs.declared.token.PieceKind.{PieceKind}
 use Rattle.ep_lex.specs.declared.token.PieceKind.TheVariants.{Blank, Comment, Spelling}
@@ -36,13 +37,13 @@ is_mark (b ∷ []) = is_mark_byte b
 is_mark (b ∷ c ∷ []) = (b == 58 && c == 61) || (b == 45 && c == 62)
 is_mark _ = false
 
--- The bytes are a piece of this kind: a word has at most 64 bytes, a number at most 9.
+-- The bytes are a piece of this kind.
 abbrev pub is_piece : PieceKind → List ℕ → Bool
 is_piece _ [] = false
 is_piece Blank (b ∷ bs) = is_blank b && length bs == 0
 is_piece Comment (b ∷ bs) = b == 35 && list_all is_comment_byte bs
-is_piece (Spelling Word) (b ∷ bs) = is_letter b && list_all is_word_byte bs && nat_le (length bs) 63
-is_piece (Spelling Number) (b ∷ bs) = is_digit b && list_all is_digit bs && nat_le (length bs) 8
+is_piece (Spelling Word) (b ∷ bs) = is_letter b && list_all is_word_byte bs && nat_le (length bs) (MOST_WORD_BYTES - 1)
+is_piece (Spelling Number) (b ∷ bs) = is_digit b && list_all is_digit bs && nat_le (length bs) (MOST_DIGITS - 1)
 is_piece (Spelling Mark) (b ∷ bs) = is_mark (b ∷ bs)
 
 -- the first byte, if there is one, does not pass
@@ -84,10 +85,10 @@ last_piece (p ∷ q ∷ ps) = last_piece (q ∷ ps)
 abbrev pub Begins : List ℕ → Type 0
 Begins bytes = (kind : PieceKind) × (text : List ℕ) × (rest : List ℕ) × (bytes ≡ text ++ rest) × IsTrue (is_piece kind text)
 
--- a word of 64 bytes or a number of 9 digits, which the byte b would go on with
+-- a word or a number of as many bytes as it may have, which the byte b would go on with
 abbrev pub is_full_at : PieceKind → ℕ → ℕ → Bool
-is_full_at (Spelling Word) len b = len == 64 && is_word_byte b
-is_full_at (Spelling Number) len b = len == 9 && is_digit b
+is_full_at (Spelling Word) len b = len == MOST_WORD_BYTES && is_word_byte b
+is_full_at (Spelling Number) len b = len == MOST_DIGITS && is_digit b
 is_full_at _ len b = false
 
 abbrev pub is_full : ℕ → Piece → Bool

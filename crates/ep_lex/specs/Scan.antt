@@ -1,5 +1,6 @@
 -- The one piece at the front of a text, or how many bytes stand before the stray one.
 use Rattle.std.specs.Prelude.{ℕ, ◌==◌, nat_le, Bool, false, if◌then◌else◌, List, [], ◌∷◌, length, take_while, Result, Ok, Err}
+use Rattle.ep_lex.specs.declared.limits.TheConstants.{MOST_DIGITS, MOST_WORD_BYTES}
 use Rattle.ep_lex.specs.declared.token.TokenKind.TheVariants.{Word, Number, Mark}
 use Rattle.ep_lex.specs.declared.token.PieceKind.{PieceKind}
 use Rattle.ep_lex.specs.declared.token.PieceKind.TheVariants.{Blank, Comment, Spelling}
@@ -30,8 +31,8 @@ scan [] = Err 0
 scan (b ∷ bs) =
     if is_blank b then Ok (Blank, b ∷ [], bs)
     else (if b == 35 then Ok (Comment, b ∷ take_while is_comment_byte bs, behind is_comment_byte bs)
-    else (if is_letter b then at_most 64 (Spelling Word) (b ∷ take_while is_word_byte bs) (behind is_word_byte bs)
-    else (if is_digit b then at_most 9 (Spelling Number) (b ∷ take_while is_digit bs) (behind is_digit bs)
+    else (if is_letter b then at_most MOST_WORD_BYTES (Spelling Word) (b ∷ take_while is_word_byte bs) (behind is_word_byte bs)
+    else (if is_digit b then at_most MOST_DIGITS (Spelling Number) (b ∷ take_while is_digit bs) (behind is_digit bs)
     else (if b == 58 then with_next b 61 bs (Ok (Spelling Mark, b ∷ [], bs))
     else (if b == 45 then with_next b 62 bs (Err 0)
     else (if is_mark_byte b then Ok (Spelling Mark, b ∷ [], bs) else Err 0))))))

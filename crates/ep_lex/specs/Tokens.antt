@@ -1,6 +1,7 @@
 -- The tokens of a text: the spellings among its pieces, with their places and lines.
 use Rattle.std.specs.Prelude.{◌≡◌, ℕ, ◌+◌, ◌<◌, ◌≤◌, List, [], ◌∷◌, ◌++◌, length, map, slice_range, slice_index_or}
 use Rattle.std.specs.List.{count_by}
+use Rattle.ep_lex.specs.declared.limits.TheConstants.{MOST_TOKENS}
 use Rattle.ep_lex.specs.declared.token.PieceKind.{PieceKind}
 use Rattle.ep_lex.specs.declared.token.PieceKind.TheVariants.{Blank, Comment, Spelling}
 use Rattle.ep_lex.specs.declared.token.Token.{Token}
@@ -35,22 +36,20 @@ spelling bytes t = slice_range bytes t.start (t.start + t.len)
 abbrev pub spellings : List ℕ → List Token → List (List ℕ)
 spellings bytes tokens = map (spelling bytes) tokens
 
--- the text has tokens, and no more than a list of them may have
-abbrev pub HasTokens : List ℕ → Type 0
-HasTokens bytes = (tokens : List Token) × AreTokens bytes tokens × (length tokens ≤ 262144)
-
--- the text has more tokens than that
-abbrev pub HasTooManyTokens : List ℕ → Type 0
-HasTooManyTokens bytes = (tokens : List Token) × AreTokens bytes tokens × (262144 < length tokens)
-
--- the line of the end of a text
-abbrev pub end_line_of : List ℕ → ℕ
-end_line_of bytes = line_behind bytes
-
 -- the tokens of a text, and the line of its end
 pub record Lexed : Type 0 where
   pub tokens : List Token
   pub end_line : ℕ
+
+-- They are those of the bytes, and no more than a list of them may have.
+pub record AreLexed (bytes : List ℕ) (found : Lexed) : Type 0 where
+  pub tokens : AreTokens bytes found.tokens
+  pub few : length found.tokens ≤ MOST_TOKENS
+  pub end_line : found.end_line ≡ line_behind bytes
+
+-- the text has more tokens than that
+abbrev pub HasTooManyTokens : List ℕ → Type 0
+HasTooManyTokens bytes = (tokens : List Token) × AreTokens bytes tokens × (MOST_TOKENS < length tokens)
 
 -- the line of token i, and of the end behind the last
 abbrev pub line_at : Lexed → ℕ → ℕ

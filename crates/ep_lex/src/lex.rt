@@ -1,21 +1,37 @@
 ghost use Rattle.std.specs.Prelude.{◌≡◌, ℕ, ◌≤◌, ◌⊎◌, [], ◌∷◌, ◌++◌, length, nat_lt, if◌then◌else◌, IsOk, IfOk, OnOk};
+ghost use Rattle.ep_lex.specs.declared.limits.TheConstants.{MOST_BYTES};
 ghost use Rattle.ep_lex.specs.Pieces.{is_line_feed, IsStray};
-ghost use Rattle.ep_lex.specs.Tokens.{AreTokens, HasTokens, HasTooManyTokens, end_line_of};
+ghost use Rattle.ep_lex.specs.Tokens.{AreLexed, HasTooManyTokens, Lexed};
 
+use crate::limits::MOST_TOKENS;
 use crate::piece::front_piece;
 use crate::token::{PieceKind, Token};
 use crate::token_list::TokenList;
 use ep_base::{List, OutOfMemory};
 use std::alloc::Global;
+use std::fmt;
 
 /// Why a text has no list of tokens. `at` is the number of bytes before the first byte that can stand in no token,
-/// blank or comment. `TooManyTokens` says that none is stray and there are more than 262,144 tokens.
+/// blank or comment. `TooManyTokens` says that none is stray and there are more tokens than a
+/// list may hold.
 #[derive(Clone, Copy, Debug, PartialEq, Eq)]
 pub enum LexError {
     Stray { at: u32 },
     TooManyTokens,
     OutOfMemory,
 }
+
+impl fmt::Display for LexError {
+    fn fmt<W: fmt::Write>(&self, f: &mut fmt::Formatter<W>) -> fmt::Result {
+        match self {
+            LexError::Stray { at } => write!(f, "stray byte at {at}"),
+            LexError::TooManyTokens => write!(f, "too many tokens"),
+            LexError::OutOfMemory => write!(f, "out of memory"),
+        }
+    }
+}
+
+impl std::error::Error for LexError {}
 
 impl From<OutOfMemory> for LexError {
     ghost use Rattle.std.specs.Prelude.{◌≡◌};
@@ -28,19 +44,16 @@ impl From<OutOfMemory> for LexError {
     }
 }
 
-const MOST_TOKENS: usize = 262_144;
-
-/// The tokens of a text of at most 1,048,576 bytes, in time in proportion to its length. What a token is and what a
+/// The tokens of a text, in time in proportion to its length. What a token is and what a
 /// stray byte is are this project's own.
 pub fn tokens(alloc: Global, bytes: &[u8]) -> Result<TokenList, LexError>
-    requires { length bytes.now ≤ 1048576 }
-    ensures tokens { IfOk result (λ found. AreTokens bytes.now found.tokens) }
-    ensures end_line { IfOk result (λ found. found.end_line ≡ end_line_of bytes.now) }
+    requires { length bytes.now ≤ MOST_BYTES }
+    ensures tokens { IfOk result (AreLexed bytes.now) }
     ensures stray { (at : ℕ) → result ≡ Err (LexError.Stray at) → IsStray bytes.now at }
     ensures too_many { result ≡ Err LexError.TooManyTokens → HasTooManyTokens bytes.now }
 
     // Each of these is told, unless memory is wanting.
-    ensures tokens_are_told { HasTokens bytes.now → IsOk result ⊎ (result ≡ Err LexError.OutOfMemory) }
+    ensures tokens_are_told { (found : Lexed) → AreLexed bytes.now found → (result ≡ Ok found) ⊎ (result ≡ Err LexError.OutOfMemory) }
     ensures stray_is_told { (at : ℕ) → IsStray bytes.now at →
         (result ≡ Err (LexError.Stray at)) ⊎ (result ≡ Err LexError.OutOfMemory) }
     ensures too_many_is_told { HasTooManyTokens bytes.now →
@@ -83,7 +96,7 @@ pub fn tokens(alloc: Global, bytes: &[u8]) -> Result<TokenList, LexError>
 
 // A token past the most that a list may have is counted, and not kept.
 fn keep(kept: &mut List<Token>, count: usize, token: Token) -> Result<(), OutOfMemory>
-    ensures { OnOk result (kept.new ≡ (if nat_lt count 262144 then kept.old ++ token ∷ [] else kept.old)) }
+    ensures { OnOk result (kept.new ≡ (if nat_lt count MOST_TOKENS then kept.old ++ token ∷ [] else kept.old)) }
 {
     if count < MOST_TOKENS {
         kept.push(token)?;

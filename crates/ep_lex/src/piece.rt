@@ -3,12 +3,10 @@
 ghost use Rattle.std.specs.Prelude.{◌≡◌, ◌≤◌, length, nat_le, take_while, if◌then◌else◌, Ok, Err};
 ghost use Rattle.ep_lex.specs.Pieces as pieces;
 ghost use Rattle.ep_lex.specs.Scan as scan;
+ghost use Rattle.ep_lex.specs.declared.limits.TheConstants.{MOST_BYTES};
 
+use crate::limits::{MOST_DIGITS, MOST_WORD_BYTES};
 use crate::token::{PieceKind, TokenKind};
-
-const MOST_WORD_BYTES: usize = 64;
-
-const MOST_DIGITS: usize = 9;
 
 fn is_blank(b: u8) -> bool
     ensures { result ≡ pieces.is_blank b }
@@ -91,7 +89,7 @@ fn is_next(bytes: &[u8], wanted: u8) -> bool
 
 // The kind and the length of the front piece, or how many bytes stand before the stray one.
 pub fn front_piece(bytes: &[u8]) -> Result<(PieceKind, usize), usize>
-    requires { length bytes.now ≤ 1048576 }
+    requires { length bytes.now ≤ MOST_BYTES }
     ensures { result ≡ scan.lengths (scan.scan bytes.now) }
 {
     let Some((b, rest)) = bytes.split_first() else {

@@ -1,11 +1,12 @@
 ghost use Rattle.std.specs.Prelude.{◌≡◌, ◌<◌, ◌≤◌, length, slice_get, Some};
 ghost use Rattle.ep_lex.specs.Tokens.{line_at};
+ghost use Rattle.ep_lex.specs.declared.limits.TheConstants.{MOST_TOKENS};
 
 use crate::token::Token;
 use ep_base::List;
 use std::marker::Model;
 
-/// The tokens of a text in order, at most 262,144, which contracts see as their list beside the line of the text's end.
+/// The tokens of a text in order, at most `MOST_TOKENS`, which contracts see as their list beside the line of the text's end.
 /// Its methods take no memory.
 #[derive(Debug, Drop)]
 pub struct TokenList {
@@ -16,17 +17,18 @@ pub struct TokenList {
 impl Model for TokenList {
     ghost use Rattle.std.specs.Prelude.{◌≤◌, length};
     ghost use Rattle.ep_lex.specs.Tokens.{Lexed};
+    ghost use Rattle.ep_lex.specs.declared.limits.TheConstants.{MOST_TOKENS};
 
     ghost Value = { Lexed };
 
     ghost view = { λ t. record { tokens = t.items; end_line = t.last_line } };
 
-    ghost invariant = { λ t. length t.items ≤ 262144 };
+    ghost invariant = { λ t. length t.items ≤ MOST_TOKENS };
 }
 
 impl TokenList {
     pub(crate) fn from_parts(items: List<Token>, last_line: u32) -> TokenList
-        requires { length items ≤ 262144 }
+        requires { length items ≤ MOST_TOKENS }
         ensures tokens { result.tokens ≡ items }
         ensures line { result.end_line ≡ last_line }
     {
@@ -35,7 +37,7 @@ impl TokenList {
 
     pub fn count(&self) -> u32
         ensures value { result ≡ length self.now.tokens }
-        ensures bound { length self.now.tokens ≤ 262144 }
+        ensures bound { length self.now.tokens ≤ MOST_TOKENS }
     {
         self.items.as_slice().len() as u32
     }

@@ -1,8 +1,11 @@
-ghost use Rattle.std.specs.Prelude.{◌≡◌, ◌≢◌, ℕ, ◌+◌, ◌/◌, ◌<◌, ◌^◌, ◌↔◌, Bool, true, false, ◌&&◌, replicate, length, slice_set, slice_index_or, IsTrue, IfOk};
-ghost use Rattle.ep_logic.specs.Rows.{both, Within};
-ghost use Rattle.ep_logic.specs.Packed.{bit_in};
+ghost use Rattle.std.specs.Prelude.{◌≡◌, ◌<◌, ◌↔◌, true, false, not, replicate, length, map, slice_set, IsTrue, IfOk};
+ghost use Rattle.ep_logic.specs.Numbers.{has_number, table};
+ghost use Rattle.ep_logic.specs.Rows.{value_at, both, either, true_places, Within};
+ghost use Rattle.ep_logic.specs.Packed.{unpacked, IsPacked};
 
-use ep_base::OutOfMemory;
+use crate::places::places_of;
+use crate::words::{and_words, flip_row, get_bit, is_within, or_words, set_bit};
+use ep_base::{List, OutOfMemory};
 use std::alloc::Global;
 use std::marker::Model;
 
@@ -34,6 +37,28 @@ impl Bits {
         Ok(Bits { words, len })
     }
 
+    /// A row of `len` times true.
+    pub fn ones(alloc: Global, len: u32) -> Result<Bits, OutOfMemory>
+        ensures { IfOk result (λ b. b ≡ replicate len true) }
+    {
+        let mut row = Bits::zeros(alloc, len)?;
+        row.flip();
+        Ok(row)
+    }
+
+    /// A row of `len` values that is true at these places. Those from `len` on are left out.
+    pub fn from_places(alloc: Global, len: u32, places: &[u32]) -> Result<Bits, OutOfMemory>
+        ensures { IfOk result (λ b. b ≡ table (has_number places.now) len) }
+    {
+        let mut row = Bits::zeros(alloc, len)?;
+        for place in places {
+            if *place < len {
+                row.set(*place, true);
+            }
+        }
+        Ok(row)
+    }
+
     /// The number of places.
     pub fn len(&self) -> u32
         ensures { result ≡ length self.now }
@@ -44,9 +69,9 @@ impl Bits {
     /// The value at a place.
     pub fn get(&self, i: u32) -> bool
         requires { i < length self.now }
-        ensures { result ≡ slice_index_or self.now i false }
+        ensures { result ≡ value_at self.now i }
     {
-        get_bit(&self.words, i)
+        get_bit(&self.words, u64::from(i))
     }
 
     /// Writes the value at a place.
@@ -54,7 +79,14 @@ impl Bits {
         requires { i < length self.old }
         ensures { self.new ≡ slice_set self.old i v }
     {
-        set_bit(&mut self.words, i, v);
+        set_bit(&mut self.words, u64::from(i), v);
+    }
+
+    /// Turns each value.
+    pub fn flip(&mut self)
+        ensures { self.new ≡ map not self.old }
+    {
+        flip_row(&mut self.words, self.len);
     }
 
     /// Keeps true what is true in both rows.
@@ -65,12 +97,35 @@ impl Bits {
         and_words(&mut self.words, &other.words);
     }
 
+    /// Makes true what is true in the other row.
+    pub fn or_with(&mut self, other: &Bits)
+        requires { length self.old ≡ length other.now }
+        ensures { self.new ≡ either self.old other.now }
+    {
+        or_words(&mut self.words, &other.words);
+    }
+
     /// Whether each place that is true here is true in the other row.
     pub fn subset(&self, other: &Bits) -> bool
         requires { length self.now ≡ length other.now }
         ensures { IsTrue result ↔ Within self.now other.now }
     {
         is_within(&self.words, &other.words)
+    }
+
+    /// The places that are true, in rising order.
+    pub fn places(&self, alloc: Global) -> Result<List<u32>, OutOfMemory>
+        ensures { IfOk result (λ places. places ≡ true_places self.now) }
+    {
+        places_of(alloc, self.words())
+    }
+
+    /// The values in words of 64 bits, the first as the least bit of the first word. Past the end all bits are 0.
+    pub fn words(&self) -> &[u64]
+        ensures value { unpacked result.now (length self.now) ≡ self.now }
+        ensures packed { IsPacked result.now (length self.now) }
+    {
+        &self.words
     }
 
     /// A second row with these values.
@@ -83,48 +138,4 @@ impl Bits {
             len: self.len,
         })
     }
-}
-
-fn get_bit(words: &[u64], i: u32) -> bool
-    requires { i / 64 < length words.now }
-    ensures { result ≡ bit_in words.now i }
-{
-    (words[(i / 64) as usize] >> (i % 64)) & 1 == 1
-}
-
-fn set_bit(words: &mut [u64], i: u32, v: bool)
-    requires { i / 64 < length words.old }
-    ensures long { length words.new ≡ length words.old }
-    ensures here { bit_in words.new i ≡ v }
-    ensures others { (k : ℕ) → k ≢ i → bit_in words.new k ≡ bit_in words.old k }
-{
-    let at = (i / 64) as usize;
-    let mask = 1u64 << (i % 64);
-    if v {
-        words[at] |= mask;
-    } else {
-        words[at] &= !mask;
-    }
-}
-
-fn and_words(a: &mut [u64], b: &[u64])
-    requires { length a.old ≡ length b.now }
-    ensures long { length a.new ≡ length a.old }
-    ensures each { (k : ℕ) → bit_in a.new k ≡ (bit_in a.old k && bit_in b.now k) }
-{
-    for i in 0..a.len() {
-        a[i] &= b[i];
-    }
-}
-
-fn is_within(a: &[u64], b: &[u64]) -> bool
-    requires { length a.now ≡ length b.now }
-    ensures { IsTrue result ↔ ((k : ℕ) → IsTrue (bit_in a.now k) → IsTrue (bit_in b.now k)) }
-{
-    for i in 0..a.len() {
-        if a[i] & b[i] != a[i] {
-            return false;
-        }
-    }
-    true
 }

@@ -1,3 +1,4 @@
 pub mod PrintLemmas
 pub mod LawsLemmas
 pub mod TableLemmas
+pub mod CallerLemmas

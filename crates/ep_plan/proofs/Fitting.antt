@@ -7,8 +7,8 @@ use Rattle.ep_theory.specs.Kripke.{Kripke}
 use Rattle.ep_theory.specs.Events.{Event, EventModel}
 use Rattle.ep_theory.specs.Fits.{Fits, SetFits, EventFits, ActionFits, fits_in}
 use Rattle.ep_theory.specs.PlanningTask.{PlanningTask, IsPlanningTask}
-use Rattle.ep_problem.specs.Plans.{after}
-use Rattle.ep_problem.proofs.Runs.{after_state}
+use Rattle.ep_theory.specs.Plans.{after}
+use Rattle.ep_theory.proofs.CallerLemmas.{after_state}
 
 all_change : {A : Type 0} (P Q : A → Type 0) → ((x : A) → P x → Q x) → (xs : List A) → AllByRecursion P xs → AllByRecursion Q xs
 all_change P Q f [] h = tt

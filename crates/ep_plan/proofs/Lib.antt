@@ -2,3 +2,4 @@ pub mod Fitting
 pub mod Made
 pub mod OneOutcome
 pub mod StuckPlans
+pub mod CallerLemmas

@@ -1,20 +1,19 @@
 -- Steps that are made, and a step that stops a run.
-use Rattle.std.proofs.Common.{◌≡◌, ℕ, ◌+◌, ◌<◌, List, [], ◌∷◌, ◌++◌, length, take, slice_get, Some, sym, ap, ◌∙◌, subst, arith, below_more, get_or, Result, Ok, Err, IfOk}
+use Rattle.std.proofs.Common.{◌≡◌, ℕ, ◌+◌, ◌<◌, List, [], ◌∷◌, ◌++◌, length, take, slice_get, Some, sym, ap, ◌∙◌, subst, arith, inl, inr, below_more, get_or, Result, Ok, Err, IfOk}
 use Rattle.std.proofs.lemmas.Option.{same_Some, none-some, slice_get_within, slice_get-get_or, get_or_from_slice_get}
 use Rattle.std.proofs.lemmas.List.{take_more, take_all}
 use Rattle.ep_logic.specs.declared.ids.ActionId.{ActionId}
 use Rattle.ep_theory.specs.Kripke.{Kripke, IsState}
 use Rattle.ep_theory.specs.Events.{EventModel}
 use Rattle.ep_theory.specs.Product.{IsApplicable, product_of}
-use Rattle.ep_theory.proofs.ProductLaws.{stuck_none}
+use Rattle.ep_theory.proofs.CallerLemmas.{stuck_none, step_some, all_get, after-snoc, after_state}
 use Rattle.ep_update.specs.declared.update.Size.{Size}
 use Rattle.ep_update.specs.declared.update.UpdateError.{UpdateError}
 use Rattle.ep_update.specs.declared.update.UpdateError.TheVariants.{Inapplicable, TooManyWorlds, TooManyLinks, OutOfMemory}
-use Rattle.ep_update.specs.Updates.{IsWithin, IsRefusal}
+use Rattle.ep_base.specs.Refusals.{OrWant}
+use Rattle.ep_update.specs.Updates.{IsWithin, IsFault}
 use Rattle.ep_theory.specs.PlanningTask.{PlanningTask, IsPlanningTask}
-use Rattle.ep_problem.specs.Plans.{after}
-use Rattle.ep_problem.proofs.Steps.{step_some, all_get}
-use Rattle.ep_problem.proofs.Runs.{after-snoc, after_state}
+use Rattle.ep_theory.specs.Plans.{after}
 use Rattle.ep_plan.specs.declared.runs.Outcome.{Outcome}
 use Rattle.ep_plan.specs.declared.runs.Outcome.TheVariants.{After, Stuck, SpentWorlds, SpentLinks}
 use Rattle.ep_plan.specs.Runs.{IsNext, IsMade, StopsAt, RunUnder, AreOf}
@@ -77,14 +76,15 @@ module _ (T : PlanningTask) (t : IsPlanningTask T) (p : List ActionId) (size : S
     }
 
     -- a step whose product is refused
-    pub refused_stop : (k : ℕ) → k ≡ n + 1 → (error : UpdateError) (o : Outcome) → IsRefusal S A size error → stop_of k error ≡ Some o → RunUnder T p size o
-    refused_stop k e (Inapplicable w) o refusal is = subst (RunUnder T p size) (same_Some (Stuck k) o is)
+    pub refused_stop : (k : ℕ) → k ≡ n + 1 → (error : UpdateError) (o : Outcome) → OrWant OutOfMemory (IsFault S A size) error → stop_of k error ≡ Some o → RunUnder T p size o
+    refused_stop k e error o (inl want) is = absurd (none-some o (sym (ap (stop_of k) want) ∙ is))
+    refused_stop k e (Inapplicable w) o (inr refusal) is = subst (RunUnder T p size) (same_Some (Stuck k) o is)
         (stop k e (λ S A. IsApplicable S A → ⊥) (λ fits. none-some w (sym ((stuck_none S A left_state).1 fits) ∙ refusal)))
-    refused_stop k e (TooManyWorlds m) o refusal is = subst (RunUnder T p size) (same_Some (SpentWorlds k m) o is)
-        (stop k e (λ S A. IsRefusal S A size (TooManyWorlds m)) refusal)
-    refused_stop k e (TooManyLinks m) o refusal is = subst (RunUnder T p size) (same_Some (SpentLinks k m) o is)
-        (stop k e (λ S A. IsRefusal S A size (TooManyLinks m)) refusal)
-    refused_stop k e OutOfMemory o refusal is = absurd (none-some o is)
+    refused_stop k e (TooManyWorlds m) o (inr refusal) is = subst (RunUnder T p size) (same_Some (SpentWorlds k m) o is)
+        (stop k e (λ S A. IsFault S A size (TooManyWorlds m)) refusal)
+    refused_stop k e (TooManyLinks m) o (inr refusal) is = subst (RunUnder T p size) (same_Some (SpentLinks k m) o is)
+        (stop k e (λ S A. IsFault S A size (TooManyLinks m)) refusal)
+    refused_stop k e OutOfMemory o (inr refusal) is = absurd refusal
 
 -- the action at a place of a plan is one of the task's
 pub place_within : (T : PlanningTask) (p : List ActionId) (n : ℕ) (a : ActionId) → AreOf T p → slice_get p n ≡ Some a → a.n < length T.actions

@@ -9,7 +9,7 @@ use Rattle.ep_theory.specs.Events.{EventModel}
 use Rattle.ep_theory.specs.Product.{IsApplicable, product_of}
 use Rattle.ep_update.specs.declared.update.Size.{Size}
 use Rattle.ep_update.specs.declared.update.UpdateError.TheVariants.{TooManyWorlds, TooManyLinks}
-use Rattle.ep_update.specs.Updates.{IsWithin, IsRefusal}
+use Rattle.ep_update.specs.Updates.{IsWithin, IsFault}
 use Rattle.ep_theory.specs.PlanningTask.{PlanningTask}
 use Rattle.ep_plan.specs.declared.runs.Outcome.{Outcome}
 use Rattle.ep_plan.specs.declared.runs.Outcome.TheVariants.{After, Stuck, SpentWorlds, SpentLinks}
@@ -26,10 +26,10 @@ abbrev IsUnmet : Kripke → EventModel → Type 0
 IsUnmet S A = IsApplicable S A → ⊥
 
 abbrev HasWorlds : Size → ℕ → Kripke → EventModel → Type 0
-HasWorlds size n S A = IsRefusal S A size (TooManyWorlds n)
+HasWorlds size n S A = IsFault S A size (TooManyWorlds n)
 
 abbrev HasLinks : Size → ℕ → Kripke → EventModel → Type 0
-HasLinks size n S A = IsRefusal S A size (TooManyLinks n)
+HasLinks size n S A = IsFault S A size (TooManyLinks n)
 
 clash : (n count bound : ℕ) → n ≡ count → bound < n → count ≤ bound → ⊥
 clash n count bound e above within = omega arith

@@ -7,9 +7,8 @@ use Rattle.ep_theory.specs.Events.{EventModel}
 use Rattle.ep_theory.specs.Product.{IsApplicable}
 use Rattle.ep_update.specs.declared.update.Size.{Size}
 use Rattle.ep_theory.specs.PlanningTask.{PlanningTask, IsPlanningTask}
-use Rattle.ep_problem.specs.Plans.{step, after_from, after}
-use Rattle.ep_problem.proofs.Steps.{step_none}
-use Rattle.ep_problem.proofs.Runs.{after_state}
+use Rattle.ep_theory.specs.Plans.{step, after_from, after}
+use Rattle.ep_theory.proofs.CallerLemmas.{step_none, after_state}
 use Rattle.ep_plan.specs.declared.runs.Outcome.TheVariants.{Stuck}
 use Rattle.ep_plan.specs.Runs.{RunUnder}
 

@@ -8,9 +8,9 @@ use Rattle.ep_theory.specs.Events.{EventModel}
 use Rattle.ep_theory.specs.Product.{IsApplicable, product_of}
 use Rattle.ep_update.specs.declared.update.Size.{Size}
 use Rattle.ep_update.specs.declared.update.UpdateError.TheVariants.{TooManyWorlds, TooManyLinks}
-use Rattle.ep_update.specs.Updates.{IsWithin, IsRefusal}
+use Rattle.ep_update.specs.Updates.{IsWithin, IsFault}
 use Rattle.ep_theory.specs.PlanningTask.{PlanningTask}
-use Rattle.ep_problem.specs.Plans.{after}
+use Rattle.ep_theory.specs.Plans.{after}
 use Rattle.ep_plan.specs.declared.runs.Outcome.{Outcome}
 use Rattle.ep_plan.specs.declared.runs.Outcome.TheVariants.{After, Stuck, SpentWorlds, SpentLinks}
 
@@ -48,8 +48,8 @@ pub record StopsAt (T : PlanningTask) (p : List ActionId) (size : Size) (k : ℕ
 abbrev pub RunUnder : PlanningTask → List ActionId → Size → Outcome → Type 0
 RunUnder T p size (After S) = IsThrough T p size S
 RunUnder T p size (Stuck k) = StopsAt T p size k (λ S A. ¬ IsApplicable S A)
-RunUnder T p size (SpentWorlds k n) = StopsAt T p size k (λ S A. IsRefusal S A size (TooManyWorlds n))
-RunUnder T p size (SpentLinks k n) = StopsAt T p size k (λ S A. IsRefusal S A size (TooManyLinks n))
+RunUnder T p size (SpentWorlds k n) = StopsAt T p size k (λ S A. IsFault S A size (TooManyWorlds n))
+RunUnder T p size (SpentLinks k n) = StopsAt T p size k (λ S A. IsFault S A size (TooManyLinks n))
 
 -- how many products were asked for, of a plan of so many actions
 abbrev pub product_count : ℕ → Outcome → ℕ

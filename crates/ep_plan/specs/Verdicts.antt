@@ -1,11 +1,13 @@
 -- The verdict on a plan: its run under 65,536 worlds and 33,554,432 links, and the goal where the run goes through.
 -- This project's own.
 use Rattle.std.specs.Prelude.{ℕ, List}
+use Rattle.ep_kripke.specs.declared.limits.TheConstants.{MOST_WORLDS}
+use Rattle.ep_plan.specs.declared.verdicts.TheConstants.{MOST_LINKS}
 use Rattle.ep_logic.specs.declared.ids.ActionId.{ActionId}
 use Rattle.ep_theory.specs.Kripke.{Kripke}
 use Rattle.ep_update.specs.declared.update.Size.{Size}
 use Rattle.ep_theory.specs.PlanningTask.{PlanningTask}
-use Rattle.ep_problem.specs.Plans.{Reaches}
+use Rattle.ep_theory.specs.Plans.{Reaches}
 use Rattle.ep_plan.specs.declared.runs.Outcome.TheVariants.{After, Stuck, SpentWorlds, SpentLinks}
 use Rattle.ep_plan.specs.declared.verdicts.Verdict.{Verdict}
 use Rattle.ep_plan.specs.declared.verdicts.Verdict.TheVariants as verdict
@@ -13,7 +15,7 @@ use Rattle.ep_plan.specs.Runs.{RunUnder}
 
 -- the size that the steps of a plan may have
 abbrev pub widest : Size
-widest = record { worlds = 65536; links = 33554432 }
+widest = record { worlds = MOST_WORLDS; links = MOST_LINKS }
 
 -- some state is what the run comes to
 abbrev pub RunsThrough : PlanningTask → List ActionId → Type 0

@@ -4,7 +4,7 @@ ghost use Rattle.std.specs.Prelude.{◌≡◌, ℕ, List, None};
 ghost use Rattle.ep_logic.specs.declared.ids.ActionId.{ActionId};
 ghost use Rattle.ep_update.specs.declared.update.Size.{Size};
 ghost use Rattle.ep_theory.specs.PlanningTask.{PlanningTask, IsPlanningTask};
-ghost use Rattle.ep_problem.specs.Plans.{after, Reaches};
+ghost use Rattle.ep_theory.specs.Plans.{after, Reaches};
 ghost use Rattle.ep_plan.specs.declared.runs.Outcome.{Outcome};
 ghost use Rattle.ep_plan.specs.declared.runs.Outcome.TheVariants.{Stuck};
 ghost use Rattle.ep_plan.specs.declared.verdicts.Verdict.{Verdict};

@@ -6,4 +6,4 @@ mod runs;
 mod verdicts;
 
 pub use runs::{Outcome, plan_fits, run_plan};
-pub use verdicts::{Verdict, validate};
+pub use verdicts::{MOST_LINKS, Verdict, validate};

@@ -1,7 +1,9 @@
 ghost use Rattle.std.specs.Prelude.{◌≡◌, ◌↔◌, IsTrue, ◌+◌, ◌<◌, ◌≤◌, ◌^◌, Some, length, slice_get, unwrap_or, IfOk, IfErr, OnErr};
+ghost use Rattle.ep_kripke.specs.declared.limits.TheConstants.{MOST_WORLDS};
 ghost use Rattle.ep_theory.specs.Events.{EventModel};
 ghost use Rattle.ep_theory.specs.Product.{IsApplicable, product_of};
-ghost use Rattle.ep_update.specs.Updates.{IsWithin, IsRefusal};
+ghost use Rattle.ep_base.specs.Refusals.{OrWant};
+ghost use Rattle.ep_update.specs.Updates.{IsWithin, IsFault};
 ghost use Rattle.ep_update.specs.declared.update.UpdateError.TheVariants as refused;
 ghost use Rattle.ep_theory.specs.PlanningTask.{IsPlanningTask};
 ghost use Rattle.ep_plan.specs.Runs.{RunUnder, AreOf, product_count};
@@ -47,7 +49,7 @@ pub fn run_plan<L: Ledger>(
 ) -> Result<Outcome, OutOfMemory>
     requires length { length plan.now < 2 ^ 32 }
     requires actions { AreOf problem.now plan.now }
-    requires worlds { size.worlds ≤ 65536 }
+    requires worlds { size.worlds ≤ MOST_WORLDS }
     requires links { size.links < 2 ^ 32 }
     ensures run { IfOk result (RunUnder problem.now plan.now size) }
     ensures products { IfOk result (λ o. steps.new ≡ steps.old + product_count (length plan.now) o) }
@@ -92,12 +94,12 @@ fn next<L: Ledger>(
     requires place { place.n < length problem.now.actions }
     requires agents { state.now.agents ≡ problem.now.initial.agents }
     requires atoms { state.now.atoms ≡ problem.now.initial.atoms }
-    requires worlds { size.worlds ≤ 65536 }
+    requires worlds { size.worlds ≤ MOST_WORLDS }
     requires links { size.links < 2 ^ 32 }
     ensures product { IfOk result (λ t. (A : EventModel) × (slice_get problem.now.actions place.n ≡ Some A)
         × IsApplicable state.now A × (t ≡ product_of state.now A) × IsWithin size t) }
     ensures refusal { IfErr result (λ e. (A : EventModel) × (slice_get problem.now.actions place.n ≡ Some A)
-        × IsRefusal state.now A size e) }
+        × OrWant UpdateError.OutOfMemory (IsFault state.now A size) e) }
     ensures step { steps.new ≡ steps.old + 1 }
 {
     let action = problem.action(place);

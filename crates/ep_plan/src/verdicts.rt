@@ -3,6 +3,7 @@ ghost use Rattle.ep_plan.specs.Runs.{AreOf};
 ghost use Rattle.ep_plan.specs.Verdicts.{IsVerdict, verdict_count};
 
 use crate::runs::{Outcome, run_plan};
+use ep_kripke::MOST_WORLDS;
 use ep_logic::{OutOfMemory, Steps};
 use ep_problem::{Plan, Problem};
 use ep_truth::holds_all;
@@ -21,9 +22,12 @@ pub enum Verdict {
     SpentLinks { step: u32, links: u64 },
 }
 
+/// The most links of the states of a run whose plan is judged.
+pub const MOST_LINKS: u64 = 33_554_432;
+
 const WIDEST: Size = Size {
-    worlds: 65_536,
-    links: 33_554_432,
+    worlds: MOST_WORLDS,
+    links: MOST_LINKS,
 };
 
 /// The verdict on the plan, by its run under 65,536 worlds and 33,554,432 links. The counter ticks as for `run_plan`.

@@ -8,7 +8,7 @@ use Rattle.std.proofs.lemmas.Option.{get_or_from_slice_get}
 use Rattle.ep_logic.specs.declared.ids.ActionId.{ActionId}
 use Rattle.ep_tree.specs.declared.tree.CallTree.{CallTree}
 use Rattle.ep_types.specs.Names.{Text}
-use Rattle.ep_parts.specs.Task.{GroundTask}
+use Rattle.ep_ground.specs.Task.{GroundTask}
 use Rattle.ep_plan_text.specs.Calls.{name_of, NamesAction, NamesNone, NameActions, IsFirstUnknown}
 
 -- ---- places of names

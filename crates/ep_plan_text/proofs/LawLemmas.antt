@@ -1,15 +1,16 @@
 -- The text of a plan is read as the plan.
 use Rattle.std.proofs.Common.{◌≡◌, ℕ, suc, ◌*◌, ◌^◌, ◌≤◌, ◌<◌, Bool, true, false, cond, List, [], ◌∷◌, length, map, get_or, Some, All, refl, sym, ap, ◌∙◌, subst, arith, length-append}
-use Rattle.std.specs.List.{flat_map}
+use Rattle.std.specs.List.{AllByRecursion, flat_map}
 use Rattle.std.proofs.lemmas.List.{length-map}
 use Rattle.std.proofs.lemmas.List.Elements.{All-nil, All-cons, All-head, All-tail, All-append, All-map, All-get_or, All-from_get_or, All-weaker, All-filter}
 use Rattle.std.proofs.lemmas.Option.{slice_get-get_or}
 use Rattle.ep_binding.specs.Bindings.{bindings, distinct_bindings, all_different, IsBinding}
-use Rattle.ep_binding.proofs.LawsLemmas.{all-bindings}
+use Rattle.ep_binding.proofs.CallerLemmas.{all-bindings}
+use Rattle.ep_lex.specs.declared.limits.TheConstants.{MOST_BYTES, MOST_TOKENS}
 use Rattle.ep_lex.specs.declared.token.Token.{Token}
 use Rattle.ep_lex.specs.Pieces.{Split}
-use Rattle.ep_lex.specs.Tokens.{AreTokens, tokens_behind, spelling, spellings}
-use Rattle.ep_lex.proofs.TokenLaws.{spellings-are}
+use Rattle.ep_lex.specs.Tokens.{AreTokens, line_behind, tokens_behind, spelling, spellings}
+use Rattle.ep_lex.proofs.CallerLemmas.{spellings-are}
 use Rattle.ep_logic.specs.declared.ids.ActionId.{ActionId}
 use Rattle.ep_name.specs.Names.{printed}
 use Rattle.ep_tree.specs.declared.terminal.Terminal.TheVariants as the
@@ -20,32 +21,34 @@ use Rattle.ep_tree.specs.declared.tree.PlanTree.{PlanTree}
 use Rattle.ep_tree.specs.declared.tree.SchemaTree.{SchemaTree}
 use Rattle.ep_tree.specs.declared.tree.TaskTree.{TaskTree}
 use Rattle.ep_tree.specs.Bare.{bare_names, bare_call, bare_plan}
-use Rattle.ep_tree.specs.Formed.{Each, OneOrMore, IsFormedName, IsFormedCall, IsFormedPlan, IsFormedObject, IsFormedSchema}
+use Rattle.ep_tree.specs.Formed.{OneOrMore, IsFormedName, IsFormedCall, IsFormedPlan, IsFormedObject, IsFormedSchema}
 use Rattle.ep_tree.specs.Grammar.{plans, spelling_of, Reads}
 use Rattle.ep_tree.specs.Marks.{fixed, named}
 use Rattle.ep_syntax.specs.PlanReading.{plan as plan_reader}
 use Rattle.ep_tree.specs.Spelling as spell
 use Rattle.ep_tree.specs.Spelling.{behind}
 use Rattle.ep_tree.specs.Terminals.{is_name}
-use Rattle.ep_tree.proofs.MarkTexts.{length-texts}
-use Rattle.ep_syntax.proofs.PlanLaws.{plan_outcome, plan_shallow}
-use Rattle.ep_syntax.proofs.Readable.{found, found_reads, found_same}
+use Rattle.ep_tree.proofs.CallerLemmas.{length-texts}
+use Rattle.ep_reader.proofs.CallerLemmas.{found, found_reads, found_same}
+use Rattle.ep_syntax.proofs.CallerLemmas.{plan_outcome, plan_shallow}
 use Rattle.ep_types.specs.Atoms.{texts as name_texts}
 use Rattle.ep_types.specs.Names.{Text, names_of}
 use Rattle.ep_types.specs.Tasks.{HasNoFault, declarations}
 use Rattle.ep_types.specs.declared.scope.Declared.{Declared}
 use Rattle.ep_universe.specs.Objects.{candidates, objects_of}
-use Rattle.ep_parts.specs.Actions.{schema_bindings}
-use Rattle.ep_parts.specs.PrintedNames.{object_name, action_name, schema_names, action_names}
-use Rattle.ep_parts.specs.Task.{GroundTask}
+use Rattle.ep_schema.specs.Actions.{schema_bindings}
+use Rattle.ep_universe.specs.PrintedNames.{object_name}
+use Rattle.ep_schema.specs.ActionNames.{action_name, schema_names, action_names}
+use Rattle.ep_ground.specs.Task.{GroundTask}
 use Rattle.ep_tree.specs.Grammar.{IsRead}
-use Rattle.ep_ground.specs.Grounding.{task_of}
-use Rattle.ep_parts.proofs.CandidateLemmas.{few_params, HasFewParams}
-use Rattle.ep_parts.proofs.NameLemmas.{AreBelow, objects-declared, schema-below}
+use Rattle.ep_ground.specs.Grounding.{IsWhole, task_of}
+use Rattle.ep_schema.proofs.CallerLemmas.{few_params, HasFewParams, schema-below}
+use Rattle.ep_universe.proofs.CallerLemmas.{AreBelow, objects-declared}
 use Rattle.ep_plan_text.specs.declared.print.Mark.{Mark as PlanMark}
 use Rattle.ep_plan_text.specs.Calls.{name_of as call_name, NameActions}
 use Rattle.ep_plan_text.specs.PlanFiles.{IsPlan, IsPlanOf}
-use Rattle.ep_plan_text.specs.PlanText.{action_name as name_at, lines, plan_text}
+use Rattle.ep_base.specs.Texts.{lines}
+use Rattle.ep_plan_text.specs.PlanText.{action_name as name_at, plan_text}
 use Rattle.ep_plan_text.proofs.LayoutLemmas.{whole_pieces, whole_lines, whole_is_split, whole_long, whole_texts, tree_of}
 
 -- ---- names are those of calls
@@ -68,7 +71,7 @@ unfolding name_tree
 texts-trees [] = refl
 texts-trees (t ∷ ts) = ap (λ z. t ∷ z) (texts-trees ts)
 
-formed_trees : (ts : List Text) → All (λ t. is_name t ≡ true) ts → Each IsFormedName (map name_tree ts)
+formed_trees : (ts : List Text) → All (λ t. is_name t ≡ true) ts → AllByRecursion IsFormedName (map name_tree ts)
 unfolding name_tree
 formed_trees [] h = tt
 formed_trees (t ∷ ts) h = (All-head (λ t. is_name t ≡ true) t ts h, formed_trees ts (All-tail (λ t. is_name t ≡ true) t ts h))
@@ -84,15 +87,15 @@ is_call name ts f g l = record {
 
 -- ---- of a task
 
-names-formed : (xs : List Name) → Each IsFormedName xs → All (λ t. is_name t ≡ true) (name_texts xs)
+names-formed : (xs : List Name) → AllByRecursion IsFormedName xs → All (λ t. is_name t ≡ true) (name_texts xs)
 names-formed [] h = All-nil (λ t. is_name t ≡ true)
 names-formed (x ∷ xs) h = All-cons (λ t. is_name t ≡ true) x.text (name_texts xs) h.0 (names-formed xs h.1)
 
-one-or-more : (xs : List Name) → OneOrMore IsFormedName xs → Each IsFormedName xs
+one-or-more : (xs : List Name) → OneOrMore IsFormedName xs → AllByRecursion IsFormedName xs
 one-or-more [] h = tt
 one-or-more (x ∷ xs) h = h
 
-objects-formed : (es : List ObjectTree) → Each IsFormedObject es → All (λ t. is_name t ≡ true) (flat_map (λ e. name_texts e.names) es)
+objects-formed : (es : List ObjectTree) → AllByRecursion IsFormedObject es → All (λ t. is_name t ≡ true) (flat_map (λ e. name_texts e.names) es)
 objects-formed [] h = All-nil (λ t. is_name t ≡ true)
 objects-formed (e ∷ es) h =
     All-append (λ t. is_name t ≡ true) (name_texts e.names) (flat_map (λ (e : ObjectTree). name_texts e.names) es) (names-formed e.names (one-or-more e.names h.0.0)) (objects-formed es h.1)
@@ -129,7 +132,7 @@ module _ (d : Declared) (objects : All (λ t. is_name t ≡ true) (names_of d.ob
       let long = All-get_or (λ b. length b ≡ length s.params) (schema_bindings d s) k [] m (schema-long d s) in
       is_call s.name.text (map (object_name d) b) f (object_names_formed b below) (omega (arith, l, long, length-map b (object_name d)))))
 
-  all_calls : (ss : List SchemaTree) → Each IsFormedSchema ss → All HasFewParams ss → All IsCall (action_names d ss)
+  all_calls : (ss : List SchemaTree) → AllByRecursion IsFormedSchema ss → All HasFewParams ss → All IsCall (action_names d ss)
   all_calls [] h l = All-nil IsCall
   all_calls (s ∷ ss) h l =
       All-append IsCall (schema_names d s) (action_names d ss) (schema_calls s h.0.0 (All-head HasFewParams s ss l)) (all_calls ss h.1 (All-tail HasFewParams s ss l))
@@ -142,8 +145,8 @@ task_calls t fine read =
 
 pub record Chosen (g : GroundTask) (plan : List ActionId) : Type 0 where
   pub calls : List CallTree
-  pub formed : Each IsFormedCall calls
-  pub short : Each IsShort calls
+  pub formed : AllByRecursion IsFormedCall calls
+  pub short : AllByRecursion IsShort calls
   pub named : NameActions g calls plan
   pub names : map call_name calls ≡ map (name_at g) plan
 
@@ -171,7 +174,7 @@ arguments_long : (ns : List Name) → length ns ≤ 6 → length (spell.argument
 arguments_long [] l = omega arith
 arguments_long (n ∷ ns) l = omega (arith, behind_long ns, length-append (behind the.Comma (map (λ n. named n ∷ []) ns)) (fixed the.CloseParen ∷ []))
 
-calls_long : (cs : List CallTree) → Each IsShort cs → length (flat_map spell.call cs) ≤ 14 * length cs
+calls_long : (cs : List CallTree) → AllByRecursion IsShort cs → length (flat_map spell.call cs) ≤ 14 * length cs
 calls_long [] h = omega arith
 calls_long (c ∷ cs) h = omega (arith, arguments_long c.args h.0, calls_long cs h.1, length-append (spell.call c) (flat_map spell.call cs))
 
@@ -237,11 +240,11 @@ module _ (g : GroundTask) (mk : PlanMark) (plan : List ActionId) (named_task : i
   calls_few : length chosen.calls ≤ 1000
   calls_few = omega (arith, plan_long chosen.calls plan g chosen.named)
 
-  few_marks : length (spell.plan tree) ≤ 262144
+  few_marks : length (spell.plan tree) ≤ MOST_TOKENS
   unfolding tree
   few_marks = omega (arith, calls_long chosen.calls chosen.short, calls_few, length-append (flat_map spell.call chosen.calls) (fixed the.End ∷ []))
 
-  few_tokens : length tokens ≤ 262144
+  few_tokens : length tokens ≤ MOST_TOKENS
   few_tokens =
       let same : length tokens ≡ length (spell.plan tree) = sym (length-map tokens (spelling text)) ∙ ap length spelled ∙ length-texts (spell.plan tree) in
       omega (arith, same, few_marks)
@@ -270,22 +273,32 @@ module _ (g : GroundTask) (mk : PlanMark) (plan : List ActionId) (named_task : i
 
   pub is_read_again : IsPlan g text plan
   is_read_again = record {
-    tokens = tokens;
+    found = record { tokens = tokens; end_line = line_behind text };
     tree = read;
-    file = record { has = record { are_tokens = are_tokens; few = few_tokens }; reads = subst (λ z. Reads plans z read) (sym spelled) is_read };
+    file = record { lexed = record { tokens = are_tokens; few = few_tokens; end_line = refl }; reads = subst (λ z. Reads plans z read) (sym spelled) is_read };
     plan_of = is_plan_of;
   }
 
-  pub is_short : length text ≤ 1048576
+  pub is_short : length text ≤ MOST_BYTES
   is_short =
       let long = whole_long g.tree.name mk (length plan) chosen.calls named_task small chosen.formed chosen.short in
       let same : length (lines (whole_lines name mk (length plan) (map call_name chosen.calls))) ≡ length text = ap (λ z. length (lines (whole_lines name mk (length plan) z))) chosen.names in
       omega (arith, long, same, calls_few)
 
-pub read_again : (t : TaskTree) (mk : PlanMark) (plan : List ActionId) → HasNoFault t → IsRead t → length plan ≤ 1000 → All (λ a. a.n < length (task_of t).actions) plan
+read_tree : (t : TaskTree) (mk : PlanMark) (plan : List ActionId) → HasNoFault t → IsRead t → length plan ≤ 1000 → All (λ a. a.n < length (task_of t).actions) plan
     → IsPlan (task_of t) (plan_text (task_of t) mk plan) plan
-read_again t mk plan fine read few all = is_read_again (task_of t) mk plan read.formed.0 few (choose (task_of t) plan (task_calls t fine read) all)
+read_tree t mk plan fine read few all = is_read_again (task_of t) mk plan read.formed.0 few (choose (task_of t) plan (task_calls t fine read) all)
 
-pub text_short : (t : TaskTree) (mk : PlanMark) (plan : List ActionId) → HasNoFault t → IsRead t → length plan ≤ 1000 → All (λ a. a.n < length (task_of t).actions) plan
-    → length (plan_text (task_of t) mk plan) ≤ 1048576
-text_short t mk plan fine read few all = is_short (task_of t) mk plan read.formed.0 few (choose (task_of t) plan (task_calls t fine read) all)
+short_tree : (t : TaskTree) (mk : PlanMark) (plan : List ActionId) → HasNoFault t → IsRead t → length plan ≤ 1000 → All (λ a. a.n < length (task_of t).actions) plan
+    → length (plan_text (task_of t) mk plan) ≤ MOST_BYTES
+short_tree t mk plan fine read few all = is_short (task_of t) mk plan read.formed.0 few (choose (task_of t) plan (task_calls t fine read) all)
+
+pub read_again : (g : GroundTask) (mk : PlanMark) (plan : List ActionId) → IsWhole g → length plan ≤ 1000 → All (λ a. a.n < length g.actions) plan → IsPlan g (plan_text g mk plan) plan
+read_again g mk plan whole few all =
+    subst (λ (h : GroundTask). IsPlan h (plan_text h mk plan) plan) (sym whole.task)
+    (read_tree g.tree mk plan whole.typed whole.read few (subst (λ (h : GroundTask). All (λ (a : ActionId). a.n < length h.actions) plan) whole.task all))
+
+pub text_short : (g : GroundTask) (mk : PlanMark) (plan : List ActionId) → IsWhole g → length plan ≤ 1000 → All (λ a. a.n < length g.actions) plan → length (plan_text g mk plan) ≤ MOST_BYTES
+text_short g mk plan whole few all =
+    subst (λ (h : GroundTask). length (plan_text h mk plan) ≤ MOST_BYTES) (sym whole.task)
+    (short_tree g.tree mk plan whole.typed whole.read few (subst (λ (h : GroundTask). All (λ (a : ActionId). a.n < length h.actions) plan) whole.task all))

@@ -2,7 +2,7 @@
 use Rattle.std.proofs.Common.{◌≡◌, ℕ, ◌+◌, ◌*◌, ◌^◌, ◌≤◌, ◌<◌, true, ◌&&◌, List, [], ◌∷◌, ◌++◌, length, map, refl, sym, ap, ◌∙◌, subst, arith, append_assoc, length-append}
 use Rattle.std.specs.Prelude.{codes, nat_le}
 use Rattle.std.specs.Fmt.{decimal}
-use Rattle.std.specs.List.{flat_map, join_with_byte, list_all}
+use Rattle.std.specs.List.{AllByRecursion, flat_map, join_with_byte, list_all}
 use Rattle.std.proofs.lemmas.Bool.{leb-true}
 use Rattle.std.proofs.lemmas.Fmt.{length-decimal-le}
 use Rattle.std.proofs.lemmas.List.Concat.{flat_map-append}
@@ -10,27 +10,26 @@ use Rattle.ep_lex.specs.declared.token.TokenKind.TheVariants as kind
 use Rattle.ep_lex.specs.declared.token.PieceKind.{PieceKind}
 use Rattle.ep_lex.specs.declared.token.PieceKind.TheVariants.{Blank, Comment, Spelling}
 use Rattle.ep_lex.specs.Pieces.{is_letter, is_word_byte, is_piece, ends, Piece, Split}
-use Rattle.ep_lex.proofs.TokenLaws.{texts_of}
+use Rattle.ep_lex.proofs.CallerLemmas.{texts_of}
 use Rattle.ep_name.specs.Names.{printed}
 use Rattle.ep_tree.specs.declared.terminal.Terminal.TheVariants as the
 use Rattle.ep_tree.specs.declared.tree.Name.{Name}
 use Rattle.ep_tree.specs.declared.tree.CallTree.{CallTree}
 use Rattle.ep_tree.specs.declared.tree.PlanTree.{PlanTree}
-use Rattle.ep_tree.specs.Formed.{Each, IsFormedName, IsFormedCall}
+use Rattle.ep_tree.specs.Formed.{IsFormedName, IsFormedCall}
 use Rattle.ep_tree.specs.Marks.{Mark, fixed, named, texts}
 use Rattle.ep_tree.specs.Spelling as spell
 use Rattle.ep_tree.specs.Spelling.{behind}
 use Rattle.ep_tree.specs.Terminals.{is_name}
-use Rattle.ep_syntax.proofs.CountLaws.{written_count}
-use Rattle.ep_syntax.proofs.Laws.{both_then}
-use Rattle.ep_tree.proofs.MarkTexts.{texts-append}
-use Rattle.ep_syntax.proofs.Sources.{both_true}
+use Rattle.ep_reader.proofs.CallerLemmas.{written_count, both_then, both_true}
+use Rattle.ep_tree.proofs.CallerLemmas.{texts-append}
 use Rattle.ep_types.specs.Atoms.{texts as name_texts}
 use Rattle.ep_types.specs.Names.{Text}
 use Rattle.ep_plan_text.specs.declared.print.Mark.{Mark as PlanMark}
 use Rattle.ep_plan_text.specs.declared.print.Mark.TheVariants.{Plain, Shortest, Found}
 use Rattle.ep_plan_text.specs.Calls.{name_of}
-use Rattle.ep_plan_text.specs.PlanText.{mark_lines, line, lines}
+use Rattle.ep_base.specs.Texts.{line, lines}
+use Rattle.ep_plan_text.specs.PlanText.{mark_lines}
 
 -- a piece at the front
 step : (k : PieceKind) (text rest : List ℕ) (ps : List Piece) → is_piece k text ≡ true → ends k text rest ≡ true → Split rest ps → Split (text ++ rest) (record { kind = k; text = text } ∷ ps)
@@ -62,7 +61,7 @@ abbrev object_pieces : Text → List Name → List Piece → List Piece
 object_pieces o [] ps = word o ∷ mark 41 ∷ blank 10 ∷ ps
 object_pieces o (n ∷ ns) ps = word o ∷ mark 44 ∷ object_pieces n.text ns ps
 
-objects_split : (o : Name) (ns : List Name) (rest : List ℕ) (ps : List Piece) → IsFormedName o → Each IsFormedName ns → Split rest ps → Split (objects_then o.text ns rest) (object_pieces o.text ns ps)
+objects_split : (o : Name) (ns : List Name) (rest : List ℕ) (ps : List Piece) → IsFormedName o → AllByRecursion IsFormedName ns → Split rest ps → Split (objects_then o.text ns rest) (object_pieces o.text ns ps)
 objects_split o [] rest ps f g s =
     step (Spelling kind.Word) o.text (41 ∷ 10 ∷ rest) (mark 41 ∷ blank 10 ∷ ps) (name_is o f) refl
     (step (Spelling kind.Mark) (41 ∷ []) (10 ∷ rest) (blank 10 ∷ ps) refl refl (step Blank (10 ∷ []) rest ps refl refl s))
@@ -88,7 +87,7 @@ abbrev args_pieces : Text → List Name → List Piece → List Piece
 args_pieces n [] ps = word n ∷ blank 10 ∷ ps
 args_pieces n (o ∷ ns) ps = word n ∷ mark 40 ∷ object_pieces o.text ns ps
 
-args_split : (n : Name) (ns : List Name) (rest : List ℕ) (ps : List Piece) → IsFormedName n → Each IsFormedName ns → Split rest ps → Split (args_then n.text ns rest) (args_pieces n.text ns ps)
+args_split : (n : Name) (ns : List Name) (rest : List ℕ) (ps : List Piece) → IsFormedName n → AllByRecursion IsFormedName ns → Split rest ps → Split (args_then n.text ns rest) (args_pieces n.text ns ps)
 args_split n [] rest ps f g s = step (Spelling kind.Word) n.text (10 ∷ rest) (blank 10 ∷ ps) (name_is n f) refl (step Blank (10 ∷ []) rest ps refl refl s)
 args_split n (o ∷ ns) rest ps f g s =
     step (Spelling kind.Word) n.text (40 ∷ objects_then o.text ns rest) (mark 40 ∷ object_pieces o.text ns ps) (name_is n f) refl
@@ -116,7 +115,7 @@ abbrev call_pieces : List CallTree → List Piece → List Piece
 call_pieces [] ps = ps
 call_pieces (c ∷ cs) ps = args_pieces c.name.text c.args (call_pieces cs ps)
 
-calls_split : (cs : List CallTree) (rest : List ℕ) (ps : List Piece) → Each IsFormedCall cs → Split rest ps → Split (lines (map name_of cs) ++ rest) (call_pieces cs ps)
+calls_split : (cs : List CallTree) (rest : List ℕ) (ps : List Piece) → AllByRecursion IsFormedCall cs → Split rest ps → Split (lines (map name_of cs) ++ rest) (call_pieces cs ps)
 calls_split [] rest ps f s = s
 calls_split (c ∷ cs) rest ps f s =
     let others = lines (map name_of cs) in
@@ -206,7 +205,7 @@ whole_pieces name mk n cs = head_pieces name (mark_pieces mk (count_pieces n (ca
 abbrev whole_then : Text → PlanMark → ℕ → List CallTree → List ℕ
 whole_then name mk n cs = head_then name (mark_then mk (count_then n (lines (map name_of cs) ++ codes "end\n")))
 
-whole_split : (name : Text) (mk : PlanMark) (n : ℕ) (cs : List CallTree) → is_name name ≡ true → n < 10 ^ 9 → Each IsFormedCall cs → Split (whole_then name mk n cs) (whole_pieces name mk n cs)
+whole_split : (name : Text) (mk : PlanMark) (n : ℕ) (cs : List CallTree) → is_name name ≡ true → n < 10 ^ 9 → AllByRecursion IsFormedCall cs → Split (whole_then name mk n cs) (whole_pieces name mk n cs)
 whole_split name mk n cs f l g =
     let calls = lines (map name_of cs) ++ codes "end\n" in
     head_split name (mark_then mk (count_then n calls)) (mark_pieces mk (count_pieces n (call_pieces cs end_pieces))) f
@@ -226,7 +225,7 @@ lines-whole name mk n cs =
     ∙ ap (λ z. head_then name (mark_then mk (codes "actions " ++ z))) (append_assoc (decimal n) (10 ∷ []) (lines (names ++ codes "end" ∷ [])))
     ∙ ap (λ z. head_then name (mark_then mk (count_then n z))) (flat_map-append line names (codes "end" ∷ []))
 
-pub whole_is_split : (name : Text) (mk : PlanMark) (n : ℕ) (cs : List CallTree) → is_name name ≡ true → n < 10 ^ 9 → Each IsFormedCall cs
+pub whole_is_split : (name : Text) (mk : PlanMark) (n : ℕ) (cs : List CallTree) → is_name name ≡ true → n < 10 ^ 9 → AllByRecursion IsFormedCall cs
     → Split (lines (whole_lines name mk n (map name_of cs))) (whole_pieces name mk n cs)
 whole_is_split name mk n cs f l g = subst (λ z. Split z (whole_pieces name mk n cs)) (sym (lines-whole name mk n cs)) (whole_split name mk n cs f l g)
 
@@ -251,15 +250,15 @@ name_long n f = by_text n.text (name_is n f)
         let few : length bs ≤ 63 = leb-true (length bs) 63 (both_true (is_letter b && list_all is_word_byte bs) (nat_le (length bs) 63) p).1 in
         omega arith
 
-objects_long : (o : Name) (ns : List Name) (rest : List ℕ) → IsFormedName o → Each IsFormedName ns → length (objects_then o.text ns rest) ≤ 66 + 65 * length ns + length rest
+objects_long : (o : Name) (ns : List Name) (rest : List ℕ) → IsFormedName o → AllByRecursion IsFormedName ns → length (objects_then o.text ns rest) ≤ 66 + 65 * length ns + length rest
 objects_long o [] rest f g = omega (arith, name_long o f, length-append o.text (41 ∷ 10 ∷ rest))
 objects_long o (n ∷ ns) rest f g = omega (arith, name_long o f, objects_long n ns rest g.0 g.1, length-append o.text (44 ∷ objects_then n.text ns rest))
 
-args_long : (n : Name) (ns : List Name) (rest : List ℕ) → IsFormedName n → Each IsFormedName ns → length ns ≤ 6 → length (args_then n.text ns rest) ≤ 456 + length rest
+args_long : (n : Name) (ns : List Name) (rest : List ℕ) → IsFormedName n → AllByRecursion IsFormedName ns → length ns ≤ 6 → length (args_then n.text ns rest) ≤ 456 + length rest
 args_long n [] rest f g l = omega (arith, name_long n f, length-append n.text (10 ∷ rest))
 args_long n (o ∷ ns) rest f g l = omega (arith, name_long n f, objects_long o ns rest g.0 g.1, length-append n.text (40 ∷ objects_then o.text ns rest))
 
-calls_bytes : (cs : List CallTree) (rest : List ℕ) → Each IsFormedCall cs → Each (λ c. length c.args ≤ 6) cs → length (lines (map name_of cs) ++ rest) ≤ 456 * length cs + length rest
+calls_bytes : (cs : List CallTree) (rest : List ℕ) → AllByRecursion IsFormedCall cs → AllByRecursion (λ c. length c.args ≤ 6) cs → length (lines (map name_of cs) ++ rest) ≤ 456 * length cs + length rest
 calls_bytes [] rest f g = omega arith
 calls_bytes (c ∷ cs) rest f g =
     let others = lines (map name_of cs) in
@@ -274,7 +273,7 @@ mark_long Found rest = omega arith
 count_long : (n : ℕ) (rest : List ℕ) → n < 10 ^ 9 → length (count_then n rest) ≤ 18 + length rest
 count_long n rest l = omega (arith, length-decimal-le 9 n (omega arith) l (omega arith), length-append (decimal n) (10 ∷ rest))
 
-pub whole_long : (name : Name) (mk : PlanMark) (n : ℕ) (cs : List CallTree) → IsFormedName name → n < 10 ^ 9 → Each IsFormedCall cs → Each (λ c. length c.args ≤ 6) cs
+pub whole_long : (name : Name) (mk : PlanMark) (n : ℕ) (cs : List CallTree) → IsFormedName name → n < 10 ^ 9 → AllByRecursion IsFormedCall cs → AllByRecursion (λ c. length c.args ≤ 6) cs
     → length (lines (whole_lines name.text mk n (map name_of cs))) ≤ 110 + 456 * length cs
 whole_long name mk n cs f l g h =
     let calls = lines (map name_of cs) ++ codes "end\n" in

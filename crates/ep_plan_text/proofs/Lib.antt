@@ -5,3 +5,4 @@ pub mod AnswerLemmas
 pub mod LayoutLemmas
 pub mod LawLemmas
 pub mod LineLemmas
+pub mod CallerLemmas

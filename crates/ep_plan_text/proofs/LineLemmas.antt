@@ -6,8 +6,9 @@ use Rattle.std.proofs.lemmas.List.Concat.{flat_map-append}
 use Rattle.std.proofs.lemmas.Option.{get_or_from_slice_get}
 use Rattle.ep_logic.specs.declared.ids.ActionId.{ActionId}
 use Rattle.ep_types.specs.Names.{Text}
-use Rattle.ep_parts.specs.Task.{GroundTask}
-use Rattle.ep_plan_text.specs.PlanText.{action_name, line, lines}
+use Rattle.ep_ground.specs.Task.{GroundTask}
+use Rattle.ep_base.specs.Texts.{line, lines}
+use Rattle.ep_plan_text.specs.PlanText.{action_name}
 
 lines-more : (g : GroundTask) (plan : List ActionId) (i : ℕ) (a : ActionId) (name : Text) → i < length plan → slice_get g.actions (get_or plan i a).n ≡ Some name
     → lines (map (action_name g) (take (i + 1) plan)) ≡ lines (map (action_name g) (take i plan)) ++ line name

@@ -3,7 +3,7 @@ use Rattle.std.proofs.Common.{◌≡◌, ℕ, ◌+◌, ◌<◌, List, [], ◌∷
 use Rattle.std.specs.List.{join_with_byte}
 use Rattle.std.proofs.lemmas.List.{append_assoc, map-append, take_more, length-map, length-take-le}
 use Rattle.ep_name.specs.Names.{mark_before}
-use Rattle.ep_name.proofs.PrintLemmas.{opened}
+use Rattle.ep_name.proofs.CallerLemmas.{opened}
 use Rattle.ep_tree.specs.declared.tree.Name.{Name}
 
 join-push : (o : List ℕ) (os : List (List ℕ)) (p : List ℕ) → join_with_byte 44 (o ∷ os ++ p ∷ []) ≡ join_with_byte 44 (o ∷ os) ++ 44 ∷ p

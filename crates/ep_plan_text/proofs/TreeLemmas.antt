@@ -2,9 +2,8 @@
 use Rattle.std.proofs.Common.{◌≡◌, ℕ, suc, ◌+◌, ◌≤◌, ◌<◌, List, [], ◌∷◌, ◌++◌, length, map, All, refl, sym, ap, ◌∙◌, subst, arith, length-append}
 use Rattle.std.specs.List.{flat_map}
 use Rattle.std.proofs.lemmas.List.Elements.{All-nil, All-cons}
-use Rattle.ep_lex.specs.declared.token.Token.{Token}
-use Rattle.ep_lex.specs.Tokens.{spellings}
-use Rattle.ep_lex.proofs.TokenLaws.{tokens-unique}
+use Rattle.ep_lex.specs.Tokens.{Lexed, spellings}
+use Rattle.ep_lex.proofs.CallerLemmas.{lexed-unique}
 use Rattle.ep_tree.specs.declared.terminal.Terminal.TheVariants as the
 use Rattle.ep_tree.specs.declared.tree.Name.{Name}
 use Rattle.ep_tree.specs.declared.tree.CallTree.{CallTree}
@@ -15,10 +14,10 @@ use Rattle.ep_tree.specs.Marks.{Mark, fixed, named, PlacedFrom}
 use Rattle.ep_syntax.specs.PlanReading.{plan}
 use Rattle.ep_tree.specs.Spelling as spell
 use Rattle.ep_tree.specs.Spelling.{behind}
-use Rattle.ep_tree.proofs.MarkTexts.{length-texts}
-use Rattle.ep_syntax.proofs.PlanLaws.{plan_outcome}
-use Rattle.ep_syntax.proofs.Readable.{only_same}
-use Rattle.ep_plan_text.specs.PlanFiles.{IsFile}
+use Rattle.ep_tree.proofs.CallerLemmas.{length-texts}
+use Rattle.ep_reader.proofs.CallerLemmas.{only_same}
+use Rattle.ep_syntax.proofs.CallerLemmas.{plan_outcome}
+use Rattle.ep_reader.specs.Texts.{IsTextOf}
 
 -- ---- places
 
@@ -100,12 +99,12 @@ tree_same ts p q x y = plan_same p q (sym (only_same plans ts plan (plan_outcome
 
 -- ---- of a file
 
-pub file_tokens : (bytes : List ℕ) (ts us : List Token) (p q : PlanTree) → IsFile bytes ts p → IsFile bytes us q → ts ≡ us
-file_tokens bytes ts us p q x y = tokens-unique bytes ts us x.has.are_tokens y.has.are_tokens
+pub file_lexed : (bytes : List ℕ) (ts us : Lexed) (p q : PlanTree) → IsTextOf plans bytes ts p → IsTextOf plans bytes us q → ts ≡ us
+file_lexed bytes ts us p q x y = lexed-unique bytes ts us x.lexed y.lexed
 
-pub file_trees : (bytes : List ℕ) (ts us : List Token) (p q : PlanTree) → IsFile bytes ts p → IsFile bytes us q → p ≡ q
+pub file_trees : (bytes : List ℕ) (ts us : Lexed) (p q : PlanTree) → IsTextOf plans bytes ts p → IsTextOf plans bytes us q → p ≡ q
 file_trees bytes ts us p q x y =
-    tree_same (spellings bytes us) p q (subst (λ z. Reads plans (spellings bytes z) p) (file_tokens bytes ts us p q x y) x.reads) y.reads
+    tree_same (spellings bytes us.tokens) p q (subst (λ z. Reads plans (spellings bytes z.tokens) p) (file_lexed bytes ts us p q x y) x.reads) y.reads
 
 -- ---- the calls stand among the tokens
 

@@ -5,7 +5,7 @@ use Rattle.ep_name.specs.Names.{printed}
 use Rattle.ep_tree.specs.declared.tree.CallTree.{CallTree}
 use Rattle.ep_types.specs.Atoms.{texts}
 use Rattle.ep_types.specs.Names.{Text}
-use Rattle.ep_parts.specs.Task.{GroundTask}
+use Rattle.ep_ground.specs.Task.{GroundTask}
 
 -- the printed name that a call writes
 abbrev pub name_of : CallTree → Text

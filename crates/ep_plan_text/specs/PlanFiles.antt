@@ -1,43 +1,22 @@
 -- What bytes say as a plan file for a ground task: the plan, or the first fault.
-use Rattle.std.specs.Prelude.{◌≡◌, ◌≢◌, ℕ, ◌≤◌, List, length}
-use Rattle.ep_lex.specs.declared.token.Token.{Token}
-use Rattle.ep_lex.specs.Pieces.{IsStray}
-use Rattle.ep_lex.specs.Tokens.{AreTokens, HasTooManyTokens, end_line_of, line_at, spellings}
+use Rattle.std.specs.Prelude.{◌≡◌, ◌≢◌, ℕ, List, length}
+use Rattle.ep_lex.specs.Tokens.{Lexed, line_at}
 use Rattle.ep_logic.specs.declared.ids.ActionId.{ActionId}
 use Rattle.ep_tree.specs.declared.tree.CallTree.{CallTree}
 use Rattle.ep_tree.specs.declared.tree.PlanTree.{PlanTree}
-use Rattle.ep_tree.specs.Grammar.{plans, Reads, SyntaxAt}
-use Rattle.ep_parts.specs.Task.{GroundTask}
+use Rattle.ep_tree.specs.Grammar.{plans}
+use Rattle.ep_reader.specs.Texts.{IsTextOf, IsTextFault}
+use Rattle.ep_reader.specs.declared.text.TextError.TheVariants as text_error
+use Rattle.ep_ground.specs.Task.{GroundTask}
 use Rattle.ep_plan_text.specs.Calls.{NameActions, IsFirstUnknown}
 use Rattle.ep_plan_text.specs.declared.read.PlanError.{PlanError}
 use Rattle.ep_plan_text.specs.declared.read.PlanError.TheVariants.{Stray, TooManyTokens, Syntax, OtherTask, UnknownAction, WrongCount}
 
--- the line of a token by its number, or of the end
-abbrev pub line_of : List ℕ → List Token → ℕ → ℕ
-line_of bytes tokens i = line_at (record { tokens = tokens; end_line = end_line_of bytes }) i
-
--- the tokens of the bytes, within their limit
-pub record HasTokens (bytes : List ℕ) (tokens : List Token) : Type 0 where
-  pub are_tokens : AreTokens bytes tokens
-  pub few : length tokens ≤ 262144
-
--- the bytes are a plan file, with these tokens and this tree
-pub record IsFile (bytes : List ℕ) (tokens : List Token) (tree : PlanTree) : Type 0 where
-  pub has : HasTokens bytes tokens
-  pub reads : Reads plans (spellings bytes tokens) tree
-
--- ---- faults of the file by itself
-
-pub record IsSyntaxFault (bytes : List ℕ) (token line : ℕ) : Type 0 where
-  pub tokens : List Token
-  pub has : HasTokens bytes tokens
-  pub fault : SyntaxAt plans (spellings bytes tokens) token
-  pub line_is : line ≡ line_of bytes tokens token
-
+-- the fault of a text by itself; nothing in a plan file is too deep
 abbrev pub IsFileFault : List ℕ → PlanError → Type 0
-IsFileFault bytes (Stray at) = IsStray bytes at
-IsFileFault bytes TooManyTokens = HasTooManyTokens bytes
-IsFileFault bytes (Syntax token line) = IsSyntaxFault bytes token line
+IsFileFault bytes (Stray at) = IsTextFault plans bytes (text_error.Stray at)
+IsFileFault bytes TooManyTokens = IsTextFault plans bytes text_error.TooManyTokens
+IsFileFault bytes (Syntax token line) = IsTextFault plans bytes (text_error.Syntax token line)
 IsFileFault bytes _ = ⊥
 
 -- ---- what a plan file says
@@ -77,10 +56,10 @@ IsTreeFault g line_of_token tree _ = ⊥
 
 -- the bytes are a plan file whose tree has the fault
 pub record HasTreeFault (g : GroundTask) (bytes : List ℕ) (e : PlanError) : Type 0 where
-  pub tokens : List Token
+  pub found : Lexed
   pub tree : PlanTree
-  pub file : IsFile bytes tokens tree
-  pub fault : IsTreeFault g (line_of bytes tokens) tree e
+  pub file : IsTextOf plans bytes found tree
+  pub fault : IsTreeFault g (line_at found) tree e
 
 -- the first fault of the bytes
 abbrev pub IsFault : GroundTask → List ℕ → PlanError → Type 0
@@ -91,7 +70,7 @@ IsFault g bytes e = IsFileFault bytes e
 
 -- the plan that the bytes are
 pub record IsPlan (g : GroundTask) (bytes : List ℕ) (plan : List ActionId) : Type 0 where
-  pub tokens : List Token
+  pub found : Lexed
   pub tree : PlanTree
-  pub file : IsFile bytes tokens tree
+  pub file : IsTextOf plans bytes found tree
   pub plan_of : IsPlanOf g tree plan

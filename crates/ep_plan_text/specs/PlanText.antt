@@ -1,10 +1,10 @@
 -- The text of a plan: its lines in order, each with a line feed.
 use Rattle.std.specs.Prelude.{List, [], ◌∷◌, ◌++◌, length, map, slice_index_or, codes}
 use Rattle.std.specs.Fmt.{decimal}
-use Rattle.std.specs.List.{flat_map}
+use Rattle.ep_base.specs.Texts.{lines}
 use Rattle.ep_logic.specs.declared.ids.ActionId.{ActionId}
 use Rattle.ep_types.specs.Names.{Text}
-use Rattle.ep_parts.specs.Task.{GroundTask}
+use Rattle.ep_ground.specs.Task.{GroundTask}
 use Rattle.ep_plan_text.specs.declared.print.Mark.{Mark}
 use Rattle.ep_plan_text.specs.declared.print.Mark.TheVariants.{Plain, Shortest, Found}
 
@@ -22,12 +22,6 @@ plan_lines g mark plan =
     codes "plan 1"
     ∷ (codes "task " ++ g.tree.name.text)
     ∷ (mark_lines mark ++ (codes "actions " ++ decimal (length plan)) ∷ (map (action_name g) plan ++ codes "end" ∷ []))
-
-abbrev pub line : Text → Text
-line text = text ++ codes "\n"
-
-abbrev pub lines : List Text → Text
-lines texts = flat_map line texts
 
 -- the text of a plan of a ground task
 abbrev pub plan_text : GroundTask → Mark → List ActionId → Text

@@ -1,26 +1,25 @@
 //! What the texts of plans are read as.
 
 ghost use Rattle.std.specs.Prelude.{◌≡◌, ◌≢◌, ℕ, ◌<◌, ◌≤◌, List, All, AllPairs, length};
+ghost use Rattle.ep_bounds.specs.declared.bounds.TheConstants.{MOST_ACTIONS};
+ghost use Rattle.ep_lex.specs.declared.limits.TheConstants.{MOST_BYTES};
 ghost use Rattle.ep_logic.specs.declared.ids.ActionId.{ActionId};
-ghost use Rattle.ep_tree.specs.declared.tree.TaskTree.{TaskTree};
-ghost use Rattle.ep_types.specs.Tasks.{HasNoFault};
-ghost use Rattle.ep_parts.specs.Task.{GroundTask};
-ghost use Rattle.ep_tree.specs.Grammar.{IsRead};
-ghost use Rattle.ep_ground.specs.Grounding.{task_of};
+ghost use Rattle.ep_ground.specs.Task.{GroundTask};
+ghost use Rattle.ep_ground.specs.Grounding.{IsWhole};
 ghost use Rattle.ep_plan_text.specs.PlanFiles.{IsFault, IsPlan};
 ghost use Rattle.ep_plan_text.specs.PlanText.{plan_text};
 ghost use Rattle.ep_plan_text.specs.declared.print.Mark.{Mark};
 ghost use Rattle.ep_plan_text.specs.declared.read.PlanError.{PlanError};
 
-/// The text of a plan of at most 1,000 actions of a ground task is a plan file of the task with this plan, whatever the
-/// mark, and short enough to be read.
+/// The text of a plan of a ground task, of no more actions than a search may be bounded to, is a plan file of the task
+/// with this plan, whatever the mark, and short enough to be read.
 pub fn a_plan_is_read_again()
-    ensures read { (t : TaskTree) (mark : Mark) (plan : List ActionId) → HasNoFault t → IsRead t → length plan ≤ 1000 →
-        All (λ a. a.n < length (task_of t).actions) plan →
-        IsPlan (task_of t) (plan_text (task_of t) mark plan) plan }
-    ensures short { (t : TaskTree) (mark : Mark) (plan : List ActionId) → HasNoFault t → IsRead t → length plan ≤ 1000 →
-        All (λ a. a.n < length (task_of t).actions) plan →
-        length (plan_text (task_of t) mark plan) ≤ 1048576 }
+    ensures read { (g : GroundTask) (mark : Mark) (plan : List ActionId) → IsWhole g → length plan ≤ MOST_ACTIONS →
+        All (λ a. a.n < length g.actions) plan →
+        IsPlan g (plan_text g mark plan) plan }
+    ensures short { (g : GroundTask) (mark : Mark) (plan : List ActionId) → IsWhole g → length plan ≤ MOST_ACTIONS →
+        All (λ a. a.n < length g.actions) plan →
+        length (plan_text g mark plan) ≤ MOST_BYTES }
 {}
 
 /// In a ground task whose action names differ, bytes are one plan at most, have one fault at most, and not both.

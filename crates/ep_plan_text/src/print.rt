@@ -1,16 +1,16 @@
 //! The texts of plans.
 
-ghost use Rattle.std.specs.Prelude.{◌≡◌, ◌<◌, [], ◌∷◌, ◌++◌, All, IfOk, OnOk, codes, length, map};
+ghost use Rattle.std.specs.Prelude.{◌≡◌, ◌<◌, ◌++◌, All, IfOk, IsTrue, OnOk, codes, length, map};
 ghost use Rattle.std.specs.Fmt.{decimal};
-ghost use Rattle.std.specs.Str.{IsAscii};
+ghost use Rattle.std.specs.Char.{is_ascii};
+ghost use Rattle.std.specs.List.{list_all};
 ghost use Rattle.ep_plan_text.specs.PlanText as spec;
-ghost use Rattle.ep_plan_text.specs.PlanText.{line, lines, mark_lines, plan_text};
+ghost use Rattle.ep_base.specs.Texts.{line, lines};
+ghost use Rattle.ep_plan_text.specs.PlanText.{mark_lines, plan_text};
 
-use ep_ground::Task;
-use ep_logic::{OutOfMemory, Text};
-use ep_problem::Plan;
+use ep_base::{OutOfMemory, Text, TextBuilder};
+use ep_ground::{Plan, Task};
 use std::alloc::Global;
-use std::marker::Model;
 
 /// What the text of a plan tells of it.
 #[derive(Clone, Copy, Debug, PartialEq, Eq)]
@@ -22,80 +22,40 @@ pub enum Mark {
     Found,
 }
 
-/// ASCII text, to which lines are added.
-#[derive(Drop)]
-struct LineText {
-    bytes: Vec<u8>,
+/// Adds the line of a word and what stands behind it.
+fn push_line(text: &mut TextBuilder, word: &str, rest: &[u8]) -> Result<(), OutOfMemory>
+    requires word { IsTrue (list_all is_ascii word.now) }
+    requires rest { All (λ b. b < 128) rest.now }
+    ensures { OnOk result (text.new ≡ text.old ++ line (word.now ++ rest.now)) }
+{
+    text.push(word)?;
+    text.push_bytes(rest)?;
+    text.push("\n")
 }
 
-impl Model for LineText {
-    ghost use Rattle.std.specs.Prelude.{ℕ, List, ◌<◌, All};
-
-    ghost Value = { List ℕ };
-
-    ghost view = { λ t. t.bytes.items };
-
-    ghost invariant = { λ t. All (λ b. b < 128) t.bytes.items };
-}
-
-impl LineText {
-    fn new(alloc: Global) -> LineText
-        ensures { result ≡ [] }
-    {
-        LineText {
-            bytes: Vec::new(alloc),
-        }
-    }
-
-    fn push(&mut self, piece: &[u8]) -> Result<(), OutOfMemory>
-        requires { All (λ b. b < 128) piece.now }
-        ensures { OnOk result (self.new ≡ self.old ++ piece.now) }
-    {
-        self.bytes.extend_from_slice(piece)?;
-        Ok(())
-    }
-
-    /// Adds the line of a word and what stands behind it.
-    fn line(&mut self, word: &str, rest: &[u8]) -> Result<(), OutOfMemory>
-        requires word { IsAscii word.now }
-        requires rest { All (λ b. b < 128) rest.now }
-        ensures { OnOk result (self.new ≡ self.old ++ line (word.now ++ rest.now)) }
-    {
-        self.push(word.as_bytes())?;
-        self.push(rest)?;
-        self.push(b"\n")
-    }
-
-    fn finish(self) -> Text
-        ensures { result ≡ self }
-    {
-        Text::from_vec(self.bytes)
-    }
-}
-
-fn mark_line(text: &mut LineText, mark: Mark) -> Result<(), OutOfMemory>
+fn mark_line(text: &mut TextBuilder, mark: Mark) -> Result<(), OutOfMemory>
     ensures { OnOk result (text.new ≡ text.old ++ lines (mark_lines mark)) }
 {
     match mark {
         Mark::Plain => Ok(()),
-        Mark::Shortest => text.line("# shortest", &[]),
-        Mark::Found => text.line("# found", &[]),
+        Mark::Shortest => push_line(text, "# shortest", &[]),
+        Mark::Found => push_line(text, "# found", &[]),
     }
 }
 
-fn count_line(alloc: Global, text: &mut LineText, count: usize) -> Result<(), OutOfMemory>
+fn count_line(alloc: Global, text: &mut TextBuilder, count: usize) -> Result<(), OutOfMemory>
     ensures { OnOk result (text.new ≡ text.old ++ line (codes "actions " ++ decimal count)) }
 {
     let digits = format!(in alloc; "{count}")?;
-    text.line("actions ", digits.as_bytes())
+    push_line(text, "actions ", digits.as_bytes())
 }
 
-fn action_lines(text: &mut LineText, task: &Task, plan: &Plan) -> Result<(), OutOfMemory>
+fn action_lines(text: &mut TextBuilder, task: &Task, plan: &Plan) -> Result<(), OutOfMemory>
     requires { All (λ a. a.n < length task.now.actions) plan.now }
     ensures { OnOk result (text.new ≡ text.old ++ lines (map (spec.action_name task.now) plan.now)) }
 {
     for action in plan.as_slice() {
-        text.line("", task.action_name(*action).as_slice())?;
+        push_line(text, "", task.action_name(*action).as_slice())?;
     }
     Ok(())
 }
@@ -106,13 +66,13 @@ pub fn print_plan(alloc: Global, task: &Task, plan: &Plan, mark: Mark) -> Result
     requires { All (λ a. a.n < length task.now.actions) plan.now }
     ensures { IfOk result (λ text. text ≡ plan_text task.now mark plan.now) }
 {
-    let mut text = LineText::new(alloc);
-    text.line("plan 1", &[])?;
-    text.line("task ", task.name().as_slice())?;
+    let mut text = TextBuilder::new(alloc);
+    push_line(&mut text, "plan 1", &[])?;
+    push_line(&mut text, "task ", task.name().as_slice())?;
     mark_line(&mut text, mark)?;
     count_line(alloc, &mut text, plan.as_slice().len())?;
     action_lines(&mut text, task, plan)?;
-    text.line("end", &[])?;
+    push_line(&mut text, "end", &[])?;
     Ok(text.finish())
 }
 
@@ -121,7 +81,7 @@ pub fn print_actions(alloc: Global, task: &Task, plan: &Plan) -> Result<Text, Ou
     requires { All (λ a. a.n < length task.now.actions) plan.now }
     ensures { IfOk result (λ text. text ≡ lines (map (spec.action_name task.now) plan.now)) }
 {
-    let mut text = LineText::new(alloc);
+    let mut text = TextBuilder::new(alloc);
     action_lines(&mut text, task, plan)?;
     Ok(text.finish())
 }

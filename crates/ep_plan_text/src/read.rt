@@ -1,28 +1,33 @@
 //! The reader of plan files.
 
 ghost use Rattle.std.specs.Prelude.{◌≡◌, ℕ, ◌<◌, ◌≤◌, ◌⊎◌, List, All, IfErr, IfOk, Ok, Err, length};
-ghost use Rattle.ep_lex.specs.Tokens.{end_line_of, line_at};
+ghost use Rattle.ep_base.specs.Refusals.{OrWant};
+ghost use Rattle.ep_lex.specs.Tokens.{line_at};
+ghost use Rattle.ep_lex.specs.declared.limits.TheConstants.{MOST_BYTES, MOST_TOKENS};
+ghost use Rattle.ep_tree.specs.Grammar.{plans};
+ghost use Rattle.ep_reader.specs.Texts.{IsTextOf};
 ghost use Rattle.ep_logic.specs.declared.ids.ActionId.{ActionId};
 ghost use Rattle.ep_plan_text.specs.Calls.{NameActions, name_of};
-ghost use Rattle.ep_plan_text.specs.PlanFiles.{HasTokens, IsFault, IsFile, IsFileFault, IsPlan, IsPlanOf, IsTreeFault, IsUnknownAt};
+ghost use Rattle.ep_plan_text.specs.PlanFiles.{IsFault, IsFileFault, IsPlan, IsPlanOf, IsTreeFault, IsUnknownAt};
 ghost use Rattle.ep_plan_text.specs.declared.read.PlanError.{PlanError};
 ghost use Rattle.ep_plan_text.specs.declared.read.PlanError.TheVariants.{OutOfMemory, UnknownAction};
 ghost use Rattle.ep_name.specs.Names.{mark_before};
 
-use ep_ground::Task;
-use ep_lex::{LexError, TokenList, tokens};
+use ep_ground::{Plan, Task};
+use ep_lex::TokenList;
 use ep_logic::{List, OutOfMemory as NoMemory};
-use ep_problem::Plan;
-use ep_syntax::{SyntaxError, read_plan_lines};
+use ep_reader::{ParsedText, TextError};
+use ep_syntax::read_plan_text;
 use ep_tree::{CallTree, PlanTree};
 use std::alloc::Global;
+use std::fmt;
 
 /// Why bytes are no plan of a task.
 #[derive(Clone, Copy, Debug, PartialEq, Eq)]
 pub enum PlanError {
     /// `at` is the number of bytes before the first that can stand in no token, blank or comment.
     Stray { at: u32 },
-    /// There are more than 262,144 tokens.
+    /// There are more tokens than a list may hold.
     TooManyTokens,
     /// No plan file goes on with this token, or ends where it is the number of tokens; `line` is its line.
     Syntax { token: u32, line: u32 },
@@ -35,6 +40,26 @@ pub enum PlanError {
     OutOfMemory,
 }
 
+impl fmt::Display for PlanError {
+    fn fmt<W: fmt::Write>(&self, f: &mut fmt::Formatter<W>) -> fmt::Result {
+        match self {
+            PlanError::Stray { at } => write!(f, "stray byte at {at}"),
+            PlanError::TooManyTokens => write!(f, "too many tokens"),
+            PlanError::Syntax { token, line } => {
+                write!(f, "syntax at token {token}, line {line}")
+            }
+            PlanError::OtherTask => write!(f, "other task"),
+            PlanError::UnknownAction { line } => write!(f, "unknown action at line {line}"),
+            PlanError::WrongCount { stated, listed } => {
+                write!(f, "{stated} actions are stated and {listed} listed")
+            }
+            PlanError::OutOfMemory => write!(f, "out of memory"),
+        }
+    }
+}
+
+impl std::error::Error for PlanError {}
+
 impl From<NoMemory> for PlanError {
     ghost use Rattle.std.specs.Prelude.{◌≡◌};
     ghost use Rattle.ep_plan_text.specs.declared.read.PlanError.TheVariants.{OutOfMemory};
@@ -46,56 +71,20 @@ impl From<NoMemory> for PlanError {
     }
 }
 
-/// The tokens of a plan file, and its tree.
-#[derive(Drop)]
-struct PlanFile {
-    tokens: TokenList,
-    tree: PlanTree,
-}
-
-fn tokens_of(alloc: Global, bytes: &[u8]) -> Result<TokenList, PlanError>
-    requires { length bytes.now ≤ 1048576 }
-    ensures has { IfOk result (λ found. HasTokens bytes.now found.tokens) }
-    ensures end_line { IfOk result (λ found. found.end_line ≡ end_line_of bytes.now) }
-    ensures fault { IfErr result (λ e. (e ≡ OutOfMemory) ⊎ IsFileFault bytes.now e) }
+/// The tokens and the tree of a plan file.
+fn read_file(alloc: Global, bytes: &[u8]) -> Result<ParsedText<PlanTree>, PlanError>
+    requires { length bytes.now ≤ MOST_BYTES }
+    ensures file { IfOk result (λ file. IsTextOf plans bytes.now file.tokens file.tree) }
+    ensures fault { IfErr result (OrWant OutOfMemory (IsFileFault bytes.now)) }
 {
-    match tokens(alloc, bytes) {
-        Ok(found) => {
-            let _count = found.count();
-            Ok(found)
-        }
-        Err(LexError::Stray { at }) => Err(PlanError::Stray { at }),
-        Err(LexError::TooManyTokens) => Err(PlanError::TooManyTokens),
-        Err(LexError::OutOfMemory) => Err(PlanError::OutOfMemory),
+    match read_plan_text(alloc, bytes) {
+        Ok(file) => Ok(file),
+        Err(TextError::Stray { at }) => Err(PlanError::Stray { at }),
+        Err(TextError::TooManyTokens) => Err(PlanError::TooManyTokens),
+        Err(TextError::Syntax { token, line }) => Err(PlanError::Syntax { token, line }),
+        Err(TextError::TooDeep { .. }) => unreachable!(),
+        Err(TextError::OutOfMemory) => Err(PlanError::OutOfMemory),
     }
-}
-
-fn tree_of(alloc: Global, bytes: &[u8], tokens: &TokenList) -> Result<PlanTree, PlanError>
-    requires has { HasTokens bytes.now tokens.now.tokens }
-    requires end_line { tokens.now.end_line ≡ end_line_of bytes.now }
-    ensures file { IfOk result (IsFile bytes.now tokens.now.tokens) }
-    ensures fault { IfErr result (λ e. (e ≡ OutOfMemory) ⊎ IsFileFault bytes.now e) }
-{
-    match read_plan_lines(alloc, bytes, tokens) {
-        Ok(tree) => Ok(tree),
-        Err(SyntaxError::Syntax { token }) => Err(PlanError::Syntax {
-            token,
-            line: tokens.line(token),
-        }),
-        Err(SyntaxError::TooDeep { .. }) => unreachable!(),
-        Err(SyntaxError::OutOfMemory) => Err(PlanError::OutOfMemory),
-    }
-}
-
-fn read_file(alloc: Global, bytes: &[u8]) -> Result<PlanFile, PlanError>
-    requires { length bytes.now ≤ 1048576 }
-    ensures file { IfOk result (λ file. IsFile bytes.now file.tokens.tokens file.tree) }
-    ensures end_line { IfOk result (λ file. file.tokens.end_line ≡ end_line_of bytes.now) }
-    ensures fault { IfErr result (λ e. (e ≡ OutOfMemory) ⊎ IsFileFault bytes.now e) }
-{
-    let tokens = tokens_of(alloc, bytes)?;
-    let tree = tree_of(alloc, bytes, &tokens)?;
-    Ok(PlanFile { tokens, tree })
 }
 
 fn mark_before(place: usize) -> u8
@@ -133,8 +122,8 @@ fn named_actions(
     requires { All (λ call. call.name.token < length tokens.now.tokens) calls.now }
     ensures named { IfOk result (NameActions task.now calls.now) }
     ensures only { IfOk result (λ plan. (other : List ActionId) → NameActions task.now calls.now other → other ≡ plan) }
-    ensures unknown { IfErr result (λ e. (e ≡ OutOfMemory)
-        ⊎ ((line : ℕ) × (e ≡ UnknownAction line) × IsUnknownAt task.now (line_at tokens.now) calls.now line)) }
+    ensures unknown { IfErr result (OrWant OutOfMemory
+        (λ e. (line : ℕ) × (e ≡ UnknownAction line) × IsUnknownAt task.now (line_at tokens.now) calls.now line)) }
 {
     let mut plan = List::new(alloc);
     for call in calls {
@@ -150,12 +139,12 @@ fn named_actions(
 }
 
 /// The plan of a file that is read.
-fn judged(alloc: Global, task: &Task, file: &PlanFile) -> Result<Plan, PlanError>
+fn judged(alloc: Global, task: &Task, file: &ParsedText<PlanTree>) -> Result<Plan, PlanError>
     requires places { All (λ call. call.name.token < length file.now.tokens.tokens) file.now.tree.calls }
-    requires few { length file.now.tree.calls ≤ 262144 }
+    requires few { length file.now.tree.calls ≤ MOST_TOKENS }
     ensures plan { IfOk result (IsPlanOf task.now file.now.tree) }
     ensures only { IfOk result (λ plan. (other : List ActionId) → NameActions task.now file.now.tree.calls other → other ≡ plan) }
-    ensures fault { IfErr result (λ e. (e ≡ OutOfMemory) ⊎ IsTreeFault task.now (line_at file.now.tokens) file.now.tree e) }
+    ensures fault { IfErr result (OrWant OutOfMemory (IsTreeFault task.now (line_at file.now.tokens) file.now.tree)) }
 {
     let tree = &file.tree;
     if tree.task.text.as_slice() != task.name().as_slice() {
@@ -176,16 +165,16 @@ fn judged(alloc: Global, task: &Task, file: &PlanFile) -> Result<Plan, PlanError
 /// The plan that bytes are as a plan file of a task, or the first of its faults in the order of `PlanError`. Comments
 /// and the layout mean nothing but for the lines that are told.
 pub fn read_plan(alloc: Global, task: &Task, bytes: &[u8]) -> Result<Plan, PlanError>
-    requires { length bytes.now ≤ 1048576 }
+    requires { length bytes.now ≤ MOST_BYTES }
     ensures plan { IfOk result (IsPlan task.now bytes.now) }
-    ensures fault { IfErr result (λ e. (e ≡ OutOfMemory) ⊎ IsFault task.now bytes.now e) }
+    ensures fault { IfErr result (OrWant OutOfMemory (IsFault task.now bytes.now)) }
 
     // Each of these is told, unless memory is wanting.
     ensures plan_is_told { (plan : List ActionId) → IsPlan task.now bytes.now plan →
         (result ≡ Ok plan) ⊎ (result ≡ Err OutOfMemory) }
     ensures fault_is_told { (e : PlanError) → IsFault task.now bytes.now e → (result ≡ Err e) ⊎ (result ≡ Err OutOfMemory) }
 
-    ensures few { IfOk result (λ plan. length plan ≤ 262144) }
+    ensures few { IfOk result (λ plan. length plan ≤ MOST_TOKENS) }
     ensures of_task { IfOk result (All (λ a. a.n < length task.now.actions)) }
 {
     let file = read_file(alloc, bytes)?;

@@ -15,8 +15,7 @@ use Rattle.ep_planning.specs.Planning.{Guided}
 use Rattle.ep_reading.specs.Run.{IsAnswerOf}
 use Rattle.ep_reading.specs.Served.{Outcome, Answers, answers}
 use Rattle.ep_reading.specs.Steps.{Serves, StopsAnswer, StopsWork, Tells}
-use Rattle.ep_reading.proofs.Told.{IsBehind, no_guide_no_fetch}
-use Rattle.ep_reading.proofs.Lift.{IsAnswerOf-held, all_held, behind_is_answer}
+use Rattle.ep_reading.proofs.CallerLemmas.{IsBehind, no_guide_no_fetch, IsAnswerOf-held, all_held, behind_is_answer}
 
 -- where there is no guide at the place
 pub serves_no_guide : (guides place : ℕ) (work : FileMap → Outcome → Type 0) (names : Subject → List ℕ → Type 0) (library : LibraryState) → guides ≤ place

@@ -5,19 +5,19 @@ use Rattle.ep_logic.specs.declared.ids.ActionId.{ActionId}
 use Rattle.ep_theory.specs.Kripke.{Kripke}
 use Rattle.ep_theory.specs.Product.{stuck_world}
 use Rattle.ep_theory.specs.PlanningTask.{PlanningTask}
-use Rattle.ep_problem.specs.Plans.{step, product_unless, after_from, after}
+use Rattle.ep_theory.specs.Plans.{step, product_unless, after_from, after}
 use Rattle.ep_search.specs.Allowed.{Allowed}
 use Rattle.ep_search.specs.declared.answer.Answer.{Answer as Found}
 use Rattle.ep_search.specs.declared.answer.Answer.TheVariants as found
-use Rattle.ep_search.specs.declared.answer.Mode.{Mode}
-use Rattle.ep_words.specs.declared.command.Bounds.{Bounds}
-use Rattle.ep_parts.specs.Task.{GroundTask}
+use Rattle.ep_bounds.specs.declared.bounds.Mode.{Mode}
+use Rattle.ep_bounds.specs.declared.bounds.Bounds.{Bounds}
+use Rattle.ep_ground.specs.Task.{GroundTask}
 use Rattle.ep_answer.specs.declared.status.Status.{Status}
 use Rattle.ep_answer.specs.declared.answer.Answer.TheVariants.{OfSearch}
 use Rattle.ep_reading.specs.PlanFile.{AreItsActions}
-use Rattle.ep_planning.specs.Planning.{HasItsActions, Plans, mode_of, planned_of}
+use Rattle.ep_planning.specs.Planning.{HasItsActions, Plans, planned_of}
 use Rattle.ep_reading.specs.Served.{Answers, Outcome, answers}
-use Rattle.ep_reading.proofs.Told.{IsBehind, other_is_behind, answers_are}
+use Rattle.ep_reading.proofs.CallerLemmas.{IsBehind, other_is_behind, answers_are}
 use Rattle.ep_answer.specs.declared.status.Status.TheVariants as done
 
 -- ---- the actions of a plan that leaves a state
@@ -54,10 +54,10 @@ allowed_has_actions g d n w m (found.Wide p) e h = actions_of_plan g p h.within.
 
 -- ---- answers of planning
 
-pub plans_by : (bounds : Bounds) (first : Bool) (g : GroundTask) (m : Mode) (a : Found) (o : Outcome) → m ≡ mode_of first
-    → Allowed g.problem bounds.depth bounds.states bounds.worlds m a → o ≡ answers (OfSearch (planned_of g bounds.depth a)) → Plans bounds first g o
+pub plans_by : (bounds : Bounds) (m : Mode) (g : GroundTask) (a : Found) (o : Outcome)
+    → Allowed g.problem bounds.depth bounds.states bounds.worlds m a → o ≡ answers (OfSearch (planned_of g bounds.depth a)) → Plans bounds m g o
 unfolding Plans
-plans_by bounds first g m a o e h is = (a, subst (λ m. Allowed g.problem bounds.depth bounds.states bounds.worlds m a) e h, is)
+plans_by bounds m g a o h is = (a, h, is)
 
 pub told_is_behind : (g : GroundTask) (d : ℕ) (a : Found) (status : Status) (text : List ℕ) → Answers status text ≡ answers (OfSearch (planned_of g d a)) → IsBehind status text
 told_is_behind g d (found.Shortest p) status text e = answers_are status done.Ok text _ e (other_is_behind done.Ok _ tt (λ e. cc) (λ e. cc) refl)
@@ -66,6 +66,6 @@ told_is_behind g d found.NoneTo status text e = answers_are status done.No text 
 told_is_behind g d found.ManyStates status text e = answers_are status done.Undecided text _ e (other_is_behind done.Undecided _ tt (λ e. cc) (λ e. cc) refl)
 told_is_behind g d (found.Wide p) status text e = answers_are status done.Undecided text _ e (other_is_behind done.Undecided _ tt (λ e. cc) (λ e. cc) refl)
 
-pub plans_is_behind : (bounds : Bounds) (first : Bool) (g : GroundTask) (status : Status) (text : List ℕ) → Plans bounds first g (Answers status text) → IsBehind status text
+pub plans_is_behind : (bounds : Bounds) (m : Mode) (g : GroundTask) (status : Status) (text : List ℕ) → Plans bounds m g (Answers status text) → IsBehind status text
 unfolding Plans
-plans_is_behind bounds first g status text h = told_is_behind g bounds.depth h.0 status text h.2
+plans_is_behind bounds m g status text h = told_is_behind g bounds.depth h.0 status text h.2

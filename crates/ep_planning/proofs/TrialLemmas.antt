@@ -4,7 +4,7 @@ use Rattle.std.proofs.lemmas.Fmt.{decimal_digit}
 use Rattle.ep_answer.specs.declared.trial_text.TrialEnd.TheVariants.{Solved, Open}
 use Rattle.ep_answer.specs.Answer.{planned_status, end_status}
 use Rattle.ep_trial.specs.TrialText.{action_lines, declaration_lines, initial_lines, listed, muddy, sees_line, trial_text}
-use Rattle.ep_parts.specs.Task.{GroundTask}
+use Rattle.ep_ground.specs.Task.{GroundTask}
 use Rattle.ep_answer.specs.declared.answer.Answer.TheVariants.{Tried}
 use Rattle.ep_answer.specs.declared.planned.Planned.{Planned}
 use Rattle.ep_answer.specs.declared.planned.Planned.TheVariants as planned
@@ -14,9 +14,8 @@ use Rattle.ep_answer.specs.declared.status.Status.TheVariants as done
 use Rattle.ep_planning.specs.Trials.{Tries, IsTrial}
 use Rattle.ep_reading.specs.Served.{Answers, answers, TaskRead}
 use Rattle.ep_answer.specs.Status.{IsWritten}
-use Rattle.ep_reading.proofs.Told.{IsBehind, other_is_behind, answers_are}
+use Rattle.ep_reading.proofs.CallerLemmas.{IsBehind, other_is_behind, answers_are, read_is_behind}
 use Rattle.ep_answer.specs.declared.trial_text.Trial.{Trial}
-use Rattle.ep_reading.proofs.Lift.{read_is_behind}
 
 digit : (n : ℕ) → n < 10 → decimal n ≡ (48 + n) ∷ []
 digit n l = decimal_digit n l

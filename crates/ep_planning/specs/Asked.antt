@@ -1,10 +1,6 @@
--- The guide that was asked, and tasks that were read.
+-- The guide that was asked.
 use Rattle.std.specs.Prelude.{◌≡◌, ℕ, List, Some, slice_get}
-use Rattle.ep_guide.specs.Asked.{Rose}
-use Rattle.ep_types.specs.Tasks.{HasNoFault}
-use Rattle.ep_parts.specs.Task.{GroundTask}
-use Rattle.ep_tree.specs.Grammar.{IsRead}
-use Rattle.ep_ground.specs.Grounding.{task_of}
+use Rattle.ep_base.specs.Counts.{Rose}
 
 -- the guide at the place was asked, where `count` says how often
 pub record WasAskedAt {G : Type 0} (count : G → ℕ) (old new : List G) (place : ℕ) : Type 0 where
@@ -13,9 +9,3 @@ pub record WasAskedAt {G : Type 0} (count : G → ℕ) (old new : List G) (place
   pub was : slice_get old place ≡ Some before
   pub is : slice_get new place ≡ Some after
   pub rose : Rose (count before) (count after)
-
--- a task that was read
-pub record IsWhole (g : GroundTask) : Type 0 where
-  pub task : g ≡ task_of g.tree
-  pub typed : HasNoFault g.tree
-  pub read : IsRead g.tree

@@ -1,15 +1,14 @@
 -- What `plan` answers for its ground task.
-use Rattle.std.specs.Prelude.{◌≡◌, ◌⊎◌, ℕ, ◌<◌, ⊤, Bool, true, false, length, map, ◌≤◌}
-use Rattle.ep_parts.specs.Task.{GroundTask}
-use Rattle.ep_plan_text.specs.PlanText.{action_name, lines, plan_text}
+use Rattle.std.specs.Prelude.{◌≡◌, ◌⊎◌, ℕ, ◌<◌, ⊤, length, map, ◌≤◌}
+use Rattle.ep_ground.specs.Task.{GroundTask}
+use Rattle.ep_base.specs.Texts.{lines}
+use Rattle.ep_plan_text.specs.PlanText.{action_name, plan_text}
 use Rattle.ep_plan_text.specs.declared.print.Mark.TheVariants as mark
 use Rattle.ep_search.specs.Allowed.{Allowed}
 use Rattle.ep_search.specs.declared.answer.Answer.{Answer as Found}
 use Rattle.ep_search.specs.declared.answer.Answer.TheVariants as found
-use Rattle.ep_search.specs.declared.answer.Bounds.{Bounds as SearchBounds}
-use Rattle.ep_search.specs.declared.answer.Mode.{Mode}
-use Rattle.ep_search.specs.declared.answer.Mode.TheVariants as mode
-use Rattle.ep_words.specs.declared.command.Bounds.{Bounds}
+use Rattle.ep_bounds.specs.declared.bounds.Bounds.{Bounds}
+use Rattle.ep_bounds.specs.declared.bounds.Mode.{Mode}
 use Rattle.ep_answer.specs.declared.answer.Answer.TheVariants.{OfSearch, NoSuchGuide}
 use Rattle.ep_answer.specs.declared.planned.Planned.{Planned}
 use Rattle.ep_answer.specs.declared.planned.Planned.TheVariants as planned
@@ -24,9 +23,6 @@ planned_of g d found.NoneTo = planned.NoneTo d
 planned_of g d found.ManyStates = planned.ManyStates
 planned_of g d (found.Wide p) = planned.WideAfter (length p) (lines (map (action_name g) p))
 
-abbrev pub search_bounds : Bounds → SearchBounds
-search_bounds b = record { depth = b.depth; states = b.states; worlds = b.worlds }
-
 -- each action of the plan of an answer is the task's
 abbrev pub HasItsActions : GroundTask → Found → Type 0
 HasItsActions g (found.Shortest p) = AreItsActions g p
@@ -35,14 +31,10 @@ HasItsActions g found.NoneTo = ⊤
 HasItsActions g found.ManyStates = ⊤
 HasItsActions g (found.Wide p) = AreItsActions g p
 
-abbrev pub mode_of : Bool → Mode
-mode_of true = mode.First
-mode_of false = mode.Prove
-
--- an answer that the task allows, for the bounds and the mode of the words
-unfoldable pub Plans : Bounds → Bool → GroundTask → Outcome → Type 0
-Plans bounds first g outcome =
-    (answer : Found) × Allowed g.problem bounds.depth bounds.states bounds.worlds (mode_of first) answer × (outcome ≡ answers (OfSearch (planned_of g bounds.depth answer)))
+-- an answer that the task allows, for the bounds and the mode
+unfoldable pub Plans : Bounds → Mode → GroundTask → Outcome → Type 0
+Plans bounds mode g outcome =
+    (answer : Found) × Allowed g.problem bounds.depth bounds.states bounds.worlds mode answer × (outcome ≡ answers (OfSearch (planned_of g bounds.depth answer)))
 
 -- a guide by its place, if there is one
 abbrev pub Guided : ℕ → ℕ → (Outcome → Type 0) → Outcome → Type 0

@@ -2,13 +2,13 @@
 use Rattle.std.specs.Prelude.{◌≡◌, ℕ, length}
 use Rattle.ep_theory.specs.Canonical.{Contracts}
 use Rattle.ep_theory.specs.Kripke.{Kripke}
-use Rattle.ep_parts.specs.Task.{GroundTask}
+use Rattle.ep_ground.specs.Task.{GroundTask}
 use Rattle.ep_plan.specs.Verdicts.{IsVerdict}
 use Rattle.ep_plan.specs.declared.verdicts.Verdict.{Verdict}
 use Rattle.ep_search.specs.Allowed.{Allowed}
 use Rattle.ep_search.specs.declared.answer.Answer.{Answer as Found}
 use Rattle.ep_search.specs.declared.answer.Answer.TheVariants as found
-use Rattle.ep_search.specs.declared.answer.Mode.TheVariants as mode
+use Rattle.ep_bounds.specs.declared.bounds.Mode.TheVariants as mode
 use Rattle.ep_answer.specs.declared.answer.Answer.TheVariants.{Tried}
 use Rattle.ep_answer.specs.declared.trial_text.Trial.{Trial}
 use Rattle.ep_answer.specs.declared.trial_text.TrialEnd.{TrialEnd}

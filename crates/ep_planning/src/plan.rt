@@ -1,27 +1,26 @@
 // `plan FILE` and its options.
 ghost use Rattle.std.specs.Prelude.{◌≡◌, ◌<◌, ◌≤◌, IfOk, length};
-ghost use Rattle.ep_guide.specs.Asked.{Rose};
+ghost use Rattle.ep_base.specs.Counts.{Rose};
 ghost use Rattle.ep_search.specs.Allowed.{Allowed, WasAsked};
-ghost use Rattle.ep_search.specs.Limits.{IsBounds};
+ghost use Rattle.ep_bounds.specs.Bounds.{IsBounds};
 ghost use Rattle.ep_planning.specs.Planning.{Guided};
 ghost use Rattle.ep_reading.specs.Guides.{AnswerNeeds, ResultNeeds};
-ghost use Rattle.ep_planning.specs.Asked.{IsWhole, WasAskedAt};
-ghost use Rattle.ep_planning.specs.Planning.{HasItsActions, Plans, mode_of, planned_of, search_bounds};
+ghost use Rattle.ep_planning.specs.Asked.{WasAskedAt};
+ghost use Rattle.ep_planning.specs.Planning.{HasItsActions, Plans, planned_of};
 ghost use Rattle.ep_reading.specs.Run.{GoesOn};
 ghost use Rattle.ep_reading.specs.Served.{TaskFile, answers};
 ghost use Rattle.ep_reading.specs.Steps.{OnlyFile, Serves};
 ghost use Rattle.ep_answer.specs.declared.cause.Subject.TheVariants.{Task as OfTask};
 
 use ep_answer::{Answer, Planned, Stop};
-use ep_ground::Task;
+use ep_bounds::{Bounds, Mode};
+use ep_ground::{Problem, Task};
 use ep_guide::Guide;
 use ep_io::Library;
 use ep_logic::{OutOfMemory, Steps};
 use ep_plan_text::{Mark, print_actions, print_plan};
-use ep_problem::Problem;
 use ep_reading::task_file;
-use ep_search::{Answer as Found, Bounds as SearchBounds, Mode, search};
-use ep_words::Bounds;
+use ep_search::{Answer as Found, search};
 use std::alloc::Global;
 use std::marker::Brand;
 use std::sync::ledger::{Blank, Ledger};
@@ -54,7 +53,7 @@ pub fn planned(
 fn searched<L: Ledger>(
     alloc: Global,
     problem: &Problem,
-    bounds: SearchBounds,
+    bounds: Bounds,
     mode: Mode,
     guide: &mut Box<dyn Guide>,
     blank: Blank,
@@ -74,7 +73,7 @@ fn searched<L: Ledger>(
 pub fn counted(
     alloc: Global,
     problem: &Problem,
-    bounds: SearchBounds,
+    bounds: Bounds,
     mode: Mode,
     guide: &mut Box<dyn Guide>,
 ) -> Result<Found, OutOfMemory>
@@ -85,37 +84,20 @@ pub fn counted(
     searched::<Brand>(alloc, problem, bounds, mode, guide, Blank::new(1))
 }
 
-fn mode(first: bool) -> Mode
-    ensures { result ≡ mode_of first }
-{
-    if first { Mode::First } else { Mode::Prove }
-}
-
-fn limits(bounds: Bounds) -> SearchBounds
-    ensures { result ≡ search_bounds bounds }
-{
-    SearchBounds {
-        depth: bounds.depth,
-        states: bounds.states,
-        worlds: bounds.worlds,
-    }
-}
-
 // The answer of planning within the bounds.
 fn answered(
     alloc: Global,
     task: &Task,
     bounds: Bounds,
-    first: bool,
+    mode: Mode,
     guide: &mut Box<dyn Guide>,
 ) -> Result<Answer, OutOfMemory>
-    requires bounds { IsBounds (search_bounds bounds) }
-    requires whole { IsWhole task.now }
-    ensures plans { IfOk result (λ answer. Plans bounds first task.now (answers answer)) }
+    requires { IsBounds bounds }
+    ensures plans { IfOk result (λ answer. Plans bounds mode task.now (answers answer)) }
     ensures asked { IfOk result (λ answer. 1 ≤ bounds.depth → AnswerNeeds answer → Rose (asked guide.old) (asked guide.new)) }
 {
-    let _actions = task.actions();
-    let found = counted(alloc, task.problem(), limits(bounds), mode(first), guide)?;
+    task.known();
+    let found = counted(alloc, task.problem(), bounds, mode, guide)?;
     let planned = planned(alloc, task, bounds.depth, &found)?;
     Ok(Answer::OfSearch(planned))
 }
@@ -126,16 +108,16 @@ fn plan<L: Library>(
     files: &mut L,
     file: &str,
     bounds: Bounds,
-    first: bool,
+    mode: Mode,
     guide: &mut Box<dyn Guide>,
 ) -> Result<Answer, Stop>
-    requires { IsBounds (search_bounds bounds) }
+    requires { IsBounds bounds }
     ensures goes_on { GoesOn (L.library files.old) (L.library files.new) }
-    ensures answer { Serves (λ held. TaskFile held file.now (Plans bounds first)) (OnlyFile OfTask file.now) ⊥ (L.library files.old) (L.library files.new) result }
+    ensures answer { Serves (λ held. TaskFile held file.now (Plans bounds mode)) (OnlyFile OfTask file.now) ⊥ (L.library files.old) (L.library files.new) result }
     ensures asked { 1 ≤ bounds.depth → ResultNeeds result → Rose (asked guide.old) (asked guide.new) }
 {
     let task = task_file(alloc, files, file)?;
-    let answer = answered(alloc, &task, bounds, first, guide)?;
+    let answer = answered(alloc, &task, bounds, mode, guide)?;
     Ok(answer)
 }
 
@@ -145,17 +127,17 @@ pub fn guided_plan<L: Library>(
     files: &mut L,
     file: &str,
     bounds: Bounds,
-    first: bool,
+    mode: Mode,
     guides: &mut Vec<Box<dyn Guide>>,
     place: usize,
 ) -> Result<Answer, Stop>
-    requires { IsBounds (search_bounds bounds) }
+    requires { IsBounds bounds }
     ensures goes_on { GoesOn (L.library files.old) (L.library files.new) }
-    ensures answer { Serves (λ held. Guided (length guides.old.items) place (TaskFile held file.now (Plans bounds first))) (OnlyFile OfTask file.now) (length guides.old.items ≤ place) (L.library files.old) (L.library files.new) result }
+    ensures answer { Serves (λ held. Guided (length guides.old.items) place (TaskFile held file.now (Plans bounds mode))) (OnlyFile OfTask file.now) (length guides.old.items ≤ place) (L.library files.old) (L.library files.new) result }
     ensures asked { 1 ≤ bounds.depth → ResultNeeds result → WasAskedAt (λ g. asked g) guides.old.items guides.new.items place }
 {
     if place >= guides.len() {
         return Ok(Answer::NoSuchGuide);
     }
-    plan(alloc, files, file, bounds, first, &mut guides[place])
+    plan(alloc, files, file, bounds, mode, &mut guides[place])
 }

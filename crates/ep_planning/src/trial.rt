@@ -1,7 +1,7 @@
 // `trial N`.
 ghost use Rattle.std.specs.Prelude.{◌≡◌, ◌<◌, ◌≤◌, length, IfOk};
 ghost use Rattle.ep_search.specs.Allowed.{Allowed};
-ghost use Rattle.ep_search.specs.declared.answer.Mode.TheVariants as mode;
+ghost use Rattle.ep_bounds.specs.declared.bounds.Mode.TheVariants as mode;
 ghost use Rattle.ep_theory.specs.Canonical.{Contracts};
 ghost use Rattle.ep_theory.specs.Kripke.{Kripke};
 ghost use Rattle.ep_trial.specs.TrialText.{trial_text};
@@ -14,11 +14,12 @@ ghost use Rattle.ep_reading.specs.Steps.{Tells};
 use crate::plan::{counted, planned};
 use ep_answer::{Answer, Stop, Trial, TrialEnd};
 use ep_base::OutOfMemory;
+use ep_bounds::{Bounds, Mode};
 use ep_canon::contract;
 use ep_ground::Task;
 use ep_guide::Guide;
 use ep_reading::{read_task, verdict};
-use ep_search::{Answer as Found, Bounds as SearchBounds, Mode};
+use ep_search::Answer as Found;
 use ep_trial::trial_text;
 use std::alloc::Global;
 
@@ -54,8 +55,8 @@ fn tried(
     requires { children ≤ 8 }
     ensures { IfOk result (IsTrial children task.now) }
 {
-    let _actions = task.actions();
-    let bounds = SearchBounds {
+    task.known();
+    let bounds = Bounds {
         depth: children,
         states: 1000,
         worlds: 256,

@@ -1,8 +1,7 @@
-//! Planning tasks over states, actions and a goal, and the runs of their plans. No text occurs here.
+//! Planning tasks over states, actions and a goal. No text occurs here.
 #![tactic(auto)]
 
 mod fitting;
-pub mod laws;
 mod problem;
 
 pub use fitting::actions_fit;

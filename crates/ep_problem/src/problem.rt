@@ -1,5 +1,6 @@
 ghost use Rattle.std.specs.Prelude.{◌≡◌, ◌<◌, ◌≤◌, Some, length, slice_get};
 ghost use Rattle.std.specs.List.{AllByRecursion};
+ghost use Rattle.ep_logic.specs.declared.limits.TheConstants.{MOST_INITIAL_WORLDS, MOST_GROUND_ACTIONS};
 ghost use Rattle.ep_theory.specs.Events.{IsAction};
 ghost use Rattle.ep_theory.specs.Fits.{Fits, ActionFits};
 ghost use Rattle.ep_theory.specs.PlanningTask.{IsPlanningTask, IsSmall};
@@ -49,19 +50,27 @@ impl Model for Problem {
 impl Problem {
     /// The problem with these parts. It takes no memory.
     pub fn new(initial: State, actions: List<Action>, goal: Formula) -> Problem
-        requires worlds { initial.worlds ≤ 256 }
-        requires actions { length actions ≤ 1024 }
+        requires worlds { initial.worlds ≤ MOST_INITIAL_WORLDS }
+        requires actions { length actions ≤ MOST_GROUND_ACTIONS }
         requires fit { AllByRecursion (ActionFits initial) actions }
         requires goal { Fits initial goal }
         ensures { result ≡ record { initial = initial; actions = actions; goal = goal } }
     {
-        let _worlds = initial.worlds();
+        initial.known();
         look_at(actions.as_slice());
         Problem {
             initial,
             actions,
             goal,
         }
+    }
+
+    /// What is known of every problem. It does nothing: a proof calls it where the code asks nothing of the problem.
+    pub fn known(&self)
+        ensures valid { IsPlanningTask self.now }
+        ensures small { IsSmall self.now }
+    {
+        let _initial = &self.initial;
     }
 
     pub fn initial(&self) -> &State
@@ -91,7 +100,7 @@ impl Problem {
         ensures small { IsSmall self.now }
     {
         let action = &self.actions.as_slice()[a.n as usize];
-        let _agents = action.agents();
+        action.known();
         action
     }
 
@@ -109,6 +118,6 @@ fn look_at(actions: &[Action])
     ensures { AllByRecursion IsAction actions.now }
 {
     for action in actions {
-        let _agents = action.agents();
+        action.known();
     }
 }

@@ -4,7 +4,9 @@ ghost use Rattle.std.specs.Prelude.{◌≡◌, ◌≤◌, ◌<◌, ◌^◌, leng
 
 use ep_event::{Action, ActionParts, EventLink, EventParts};
 use ep_kripke::{Link, State, StateParts};
-use ep_logic::{AgentId, AtomId, Bits, EventId, Formula, List, OutOfMemory, Steps, WorldId};
+use ep_logic::{
+    AgentId, Agents, AtomId, Bits, EventId, Formula, List, OutOfMemory, Steps, WorldId,
+};
 use ep_update::{Size, UpdateError, fits_action, product};
 use std::alloc::Global;
 use std::marker::Brand;
@@ -116,6 +118,14 @@ pub fn state(rt: &impl Abort, alloc: Global, given: Given) -> Result<State, Fail
     };
     check_state(rt, &parts);
     Ok(State::build(alloc, parts)?)
+}
+
+/// The agents of the group see whether heads is up.
+pub fn sense(rt: &impl Abort, alloc: Global, group: Agents) -> Result<Action, OutOfMemory> {
+    let heads = Formula::atom(HEADS);
+    assert!(rt; !group.is_empty() && group.is_within(2));
+    assert!(rt; heads.depth() < 128 && heads.nodes() < 131_072);
+    Action::sense(alloc, 2, heads, group)
 }
 
 fn plain_events(alloc: Global) -> Result<List<EventParts>, OutOfMemory> {

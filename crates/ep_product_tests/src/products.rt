@@ -2,16 +2,16 @@
 
 ghost use Rattle.std.specs.Prelude.{◌<◌};
 
-use crate::made::{ALL, ANN, COIN, Given, HEADS, WIDE, outcome, state, two_events};
+use crate::made::{ALL, ANN, COIN, Given, HEADS, WIDE, outcome, sense, state, two_events};
 use ep_event::{Action, Assign};
 use ep_kripke::State;
 use ep_logic::{AgentId, Agents, AtomId, Formula, List, OutOfMemory, WorldId};
-use std::alloc::{AllocError, Global};
+use std::alloc::Global;
 use std::process::Abort;
 use std::test::Fail;
 
 // All that a state has, as one list.
-fn picture(alloc: Global, s: &State) -> Result<Vec<u32>, AllocError> {
+fn picture(alloc: Global, s: &State) -> Result<Vec<u32>, OutOfMemory> {
     let mut all = [s.worlds(), s.agents(), s.atoms()].to_vec(alloc)?;
     all.extend_from_slice(s.designated())?;
     for w in 0..s.worlds() {
@@ -20,7 +20,7 @@ fn picture(alloc: Global, s: &State) -> Result<Vec<u32>, AllocError> {
     Ok(all)
 }
 
-fn add_world(all: &mut Vec<u32>, s: &State, w: WorldId) -> Result<(), AllocError>
+fn add_world(all: &mut Vec<u32>, s: &State, w: WorldId) -> Result<(), OutOfMemory>
     requires { w.n < s.now.worlds }
 {
     for p in 0..s.atoms() {
@@ -28,12 +28,12 @@ fn add_world(all: &mut Vec<u32>, s: &State, w: WorldId) -> Result<(), AllocError
     }
     for a in 0..s.agents() {
         all.push(u32::MAX)?;
-        all.extend_from_slice(s.targets(AgentId { n: a }, w))?;
+        s.put_targets(AgentId { n: a }, w, all)?;
     }
     Ok(())
 }
 
-fn check_same(rt: &impl Abort, alloc: Global, s: &State, t: &State) -> Result<(), AllocError> {
+fn check_same(rt: &impl Abort, alloc: Global, s: &State, t: &State) -> Result<(), OutOfMemory> {
     let found = picture(alloc, s)?;
     let want = picture(alloc, t)?;
     assert_eq!(rt; found, want);
@@ -104,13 +104,6 @@ fn ann_is_told(rt: HostRuntime) -> Result<(), Fail> {
         ..COIN
     };
     check_product(&rt, rt.alloc(), COIN, &only, told)
-}
-
-fn sense(rt: &impl Abort, alloc: Global, group: Agents) -> Result<Action, OutOfMemory> {
-    let heads = Formula::atom(HEADS);
-    assert!(rt; !group.is_empty() && group.is_within(2));
-    assert!(rt; heads.depth() < 128 && heads.nodes() < 131_072);
-    Action::sense(alloc, 2, heads, group)
 }
 
 #[test]

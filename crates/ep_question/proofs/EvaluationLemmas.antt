@@ -3,14 +3,14 @@ use Rattle.std.proofs.Common.{◌≡◌, ◌<◌, ◌+◌, ℕ, suc, All, Bool, 
 use Rattle.std.specs.List.{fold}
 use Rattle.ep_logic.specs.declared.formula.Node.{Node}
 use Rattle.ep_theory.specs.Kripke.{Kripke, IsState}
-use Rattle.ep_theory.specs.Numbers.{table}
+use Rattle.ep_logic.specs.Numbers.{table}
 use Rattle.ep_theory.specs.Tested.{is_true}
-use Rattle.ep_theory.proofs.NumbersLemmas.{get_or-table}
-use Rattle.ep_truth.specs.Labels.{value_at}
-use Rattle.ep_truth.proofs.LabelLemmas.{designated_within}
+use Rattle.ep_logic.proofs.CallerLemmas.{get_or-table}
+use Rattle.ep_logic.specs.Rows.{value_at}
+use Rattle.ep_truth.proofs.CallerLemmas.{designated_within}
 use Rattle.ep_theory.specs.Fits.{Fits}
-use Rattle.ep_plan.proofs.Fitting.{formula_fits}
-use Rattle.ep_parts.specs.Task.{GroundTask}
+use Rattle.ep_plan.proofs.CallerLemmas.{formula_fits}
+use Rattle.ep_ground.specs.Task.{GroundTask}
 use Rattle.ep_answer.specs.declared.answer.Answer.TheVariants.{TrueAt}
 use Rattle.ep_question.specs.Questions.{Evaluates}
 use Rattle.ep_reading.specs.Served.{answers}

@@ -5,14 +5,14 @@ use Rattle.ep_logic.specs.declared.ids.ActionId.{ActionId}
 use Rattle.ep_theory.specs.Kripke.{Kripke}
 use Rattle.ep_plan.specs.declared.verdicts.Verdict.{Verdict}
 use Rattle.ep_plan.specs.declared.verdicts.Verdict.TheVariants as verdict
-use Rattle.ep_parts.specs.Task.{GroundTask}
+use Rattle.ep_ground.specs.Task.{GroundTask}
 use Rattle.ep_answer.specs.declared.answer.Answer.TheVariants.{Judged}
 use Rattle.ep_answer.specs.declared.status.Status.{Status}
 use Rattle.ep_answer.specs.declared.status.Status.TheVariants as done
-use Rattle.ep_answer.specs.Answer.{line}
+use Rattle.ep_base.specs.Texts.{line}
 use Rattle.ep_question.specs.Questions.{Evaluates, Shows, ShowsContraction, Validates, Asks, Evals}
 use Rattle.ep_reading.specs.Served.{Answers, answers}
-use Rattle.ep_reading.proofs.Told.{IsBehind, other_is_behind, answers_are}
+use Rattle.ep_reading.proofs.CallerLemmas.{IsBehind, other_is_behind, answers_are, formula_is_behind, ran_is_behind}
 use Rattle.hex.specs.Hex.{encode_lower}
 use Rattle.ep_theory.specs.Canonical.{Contracts}
 use Rattle.ep_canon.specs.Bytes.{bytes_of}
@@ -22,8 +22,6 @@ use Rattle.ep_question.specs.declared.question.Question.{Question}
 use Rattle.ep_question.specs.declared.question.Question.TheVariants.{Validate, Eval, State, Contract}
 use Rattle.ep_answer.specs.declared.run_stop.Whose.TheVariants.{Only}
 use Rattle.ep_reading.specs.PlanFile.{Ran}
-use Rattle.ep_reading.proofs.FormulaLemmas.{formula_is_behind}
-use Rattle.ep_reading.proofs.PlanFileLemmas.{ran_is_behind}
 
 judged_is_behind : (v : Verdict) (status : Status) (text : List ℕ) → Answers status text ≡ answers (Judged v) → IsBehind status text
 judged_is_behind verdict.Yes status text e = answers_are status done.Ok text _ e (other_is_behind done.Ok _ tt (λ e. cc) (λ e. cc) refl)

@@ -7,7 +7,7 @@ use Rattle.ep_theory.specs.Canonical.{Contracts}
 use Rattle.ep_theory.specs.Kripke.{Kripke}
 use Rattle.ep_theory.specs.Tested.{is_true}
 use Rattle.ep_canon.specs.Bytes.{bytes_of}
-use Rattle.ep_parts.specs.Task.{GroundTask}
+use Rattle.ep_ground.specs.Task.{GroundTask}
 use Rattle.ep_ground.specs.StateText.{state_text}
 use Rattle.ep_plan.specs.Verdicts.{IsVerdict}
 use Rattle.ep_plan.specs.declared.verdicts.Verdict.{Verdict}
@@ -18,7 +18,7 @@ use Rattle.ep_answer.specs.declared.run_stop.Whose.TheVariants.{Only}
 use Rattle.ep_reading.specs.FormulaWord.{FormulaWord}
 use Rattle.ep_reading.specs.PlanFile.{Ran, PlanFile}
 use Rattle.ep_answer.specs.declared.status.Status.TheVariants as status
-use Rattle.ep_answer.specs.Answer.{line}
+use Rattle.ep_base.specs.Texts.{line}
 use Rattle.ep_reading.specs.Served.{Outcome, Answers, answers, TaskFile}
 use Rattle.ep_io.specs.Library.{FileMap}
 use Rattle.ep_answer.specs.declared.cause.Subject.{Subject}

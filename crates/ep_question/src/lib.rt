@@ -1,6 +1,7 @@
 //! The commands with a task and one plan: `validate`, `eval`, `state` and `contract`.
 #![tactic(auto)]
 
+pub mod laws;
 mod one_plan;
 mod question;
 

@@ -1,11 +1,13 @@
 // The commands with a task and one plan.
 ghost use Rattle.std.specs.Prelude.{◌≡◌, ◌<◌, ◌≤◌, All, count_by, length, string_bytes, IfOk};
+ghost use Rattle.ep_canon.specs.declared.limits.TheConstants.{MOST_CONTRACTED_WORLDS};
 ghost use Rattle.hex.specs.Hex.{encode_lower};
+ghost use Rattle.ep_lex.specs.declared.limits.TheConstants.{MOST_TOKENS};
 ghost use Rattle.ep_canon.specs.Bytes.{bytes_of};
 ghost use Rattle.ep_plan.specs.Runs.{AreOf};
 ghost use Rattle.ep_plan.specs.Verdicts.{IsVerdict};
 ghost use Rattle.ep_theory.specs.Fits.{Fits};
-ghost use Rattle.ep_truth.specs.Labels.{value_at};
+ghost use Rattle.ep_logic.specs.Rows.{value_at};
 ghost use Rattle.ep_question.specs.Questions.{PlanWork};
 ghost use Rattle.ep_reading.specs.PlanFile.{PlanFile};
 ghost use Rattle.ep_reading.specs.PlanFile.{AreItsActions};
@@ -19,11 +21,10 @@ ghost use Rattle.ep_answer.specs.declared.cause.Subject.TheVariants.{Plan as OfP
 use crate::question::Question;
 use ep_answer::{Answer, Stop, Subject, Whose};
 use ep_canon::{Canon, contract};
-use ep_ground::{Task, print_state};
+use ep_ground::{Plan, Task, print_state};
 use ep_io::Library;
 use ep_kripke::State;
 use ep_logic::{Bits, Formula, OutOfMemory};
-use ep_problem::Plan;
 use ep_reading::{formula_word, plan_file, ran, task_file, verdict};
 use ep_truth::label;
 use std::alloc::Global;
@@ -57,7 +58,7 @@ fn evaluated(alloc: Global, state: &State, formula: &Formula) -> Result<Answer, 
 }
 
 fn evals(alloc: Global, task: &Task, plan: &Plan, word: &str) -> Result<Answer, Stop>
-    requires length { length plan.now ≤ 262144 }
+    requires length { length plan.now ≤ MOST_TOKENS }
     requires actions { AreItsActions task.now plan.now }
     ensures { Tells (Evals word.now task.now plan.now) result }
 {
@@ -70,7 +71,7 @@ fn evals(alloc: Global, task: &Task, plan: &Plan, word: &str) -> Result<Answer, 
 // ---- state
 
 fn shows(alloc: Global, task: &Task, plan: &Plan) -> Result<Answer, Stop>
-    requires length { length plan.now ≤ 262144 }
+    requires length { length plan.now ≤ MOST_TOKENS }
     requires actions { AreItsActions task.now plan.now }
     ensures { Tells (States task.now plan.now) result }
 {
@@ -97,7 +98,7 @@ fn digits(alloc: Global, canon: &Canon) -> Result<String, OutOfMemory>
 }
 
 fn contraction(alloc: Global, task: &Task, state: &State) -> Result<Answer, OutOfMemory>
-    requires worlds { state.now.worlds ≤ 4096 }
+    requires worlds { state.now.worlds ≤ MOST_CONTRACTED_WORLDS }
     requires agents { state.now.agents ≡ length task.now.agents }
     requires atoms { state.now.atoms ≡ length task.now.atoms }
     ensures { IfOk result (λ answer. ShowsContraction task.now state.now (answers answer)) }
@@ -109,7 +110,7 @@ fn contraction(alloc: Global, task: &Task, state: &State) -> Result<Answer, OutO
 }
 
 fn contracts(alloc: Global, task: &Task, plan: &Plan) -> Result<Answer, Stop>
-    requires length { length plan.now ≤ 262144 }
+    requires length { length plan.now ≤ MOST_TOKENS }
     requires actions { AreItsActions task.now plan.now }
     ensures { Tells (Contractions task.now plan.now) result }
 {
@@ -121,7 +122,7 @@ fn contracts(alloc: Global, task: &Task, plan: &Plan) -> Result<Answer, Stop>
 // ---- all of them
 
 fn asked(alloc: Global, task: &Task, plan: &Plan, question: Question) -> Result<Answer, Stop>
-    requires length { length plan.now ≤ 262144 }
+    requires length { length plan.now ≤ MOST_TOKENS }
     requires actions { AreItsActions task.now plan.now }
     ensures { Tells (Asks question.entry task.now plan.now) result }
 {

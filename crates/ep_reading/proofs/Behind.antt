@@ -1,7 +1,7 @@
 -- How a command puts its steps together.
 use Rattle.std.proofs.Common.{ℕ, List, Result, Ok, Err}
 use Rattle.ep_logic.specs.declared.ids.ActionId.{ActionId}
-use Rattle.ep_parts.specs.Task.{GroundTask}
+use Rattle.ep_ground.specs.Task.{GroundTask}
 use Rattle.ep_io.specs.Library.{FileMap, LibraryState}
 use Rattle.ep_answer.specs.declared.answer.Answer.{Answer}
 use Rattle.ep_answer.specs.declared.answer.Stop.{Stop}

@@ -1,14 +1,16 @@
 -- The formula of a word, as a step of the work.
 use Rattle.std.proofs.Common.{◌≡◌, ◌≤◌, ◌+◌, ℕ, List, length, Option, Some, None, MatchOption, inl, inr, refl, sym, subst}
-use Rattle.ep_lex.specs.Tokens.{Lexed, spellings}
+use Rattle.ep_lex.specs.declared.limits.TheConstants.{MOST_BYTES}
+use Rattle.ep_lex.specs.Tokens.{Lexed}
+use Rattle.ep_reader.specs.Texts.{IsTextOf}
 use Rattle.ep_logic.specs.declared.formula.Node.{Node}
-use Rattle.ep_tree.specs.Grammar.{formulas, Reads}
+use Rattle.ep_tree.specs.Grammar.{formulas}
 use Rattle.ep_tree.specs.declared.tree.FormulaTree.{FormulaTree}
 use Rattle.ep_types.specs.Tasks.{declarations}
-use Rattle.ep_universe.specs.FormulaFaults.{formula_refusal}
-use Rattle.ep_universe.specs.declared.fault.FormulaFault.{FormulaFault}
-use Rattle.ep_universe.specs.declared.fault.FormulaFault.TheVariants as fault
-use Rattle.ep_parts.specs.Task.{GroundTask}
+use Rattle.ep_ground.specs.FormulaFaults.{formula_refusal}
+use Rattle.ep_ground.specs.declared.formula_fault.FormulaFault.{FormulaFault}
+use Rattle.ep_ground.specs.declared.formula_fault.FormulaFault.TheVariants as fault
+use Rattle.ep_ground.specs.Task.{GroundTask}
 use Rattle.ep_answer.specs.declared.answer.Answer.TheVariants.{Refused}
 use Rattle.ep_answer.specs.declared.answer.Stop.{Stop}
 use Rattle.ep_answer.specs.declared.answer.Stop.TheVariants.{Told, OutOfMemory}
@@ -16,10 +18,10 @@ use Rattle.ep_answer.specs.declared.cause.Cause.TheVariants as cause
 use Rattle.ep_answer.specs.declared.cause.Subject.TheVariants.{Formula}
 use Rattle.ep_answer.specs.declared.status.Status.{Status}
 use Rattle.ep_reading.specs.FormulaWord.{Formed, FormulaRead, FormulaWord, TellsFormulaFault, ground_form}
-use Rattle.ep_reading.specs.Served.{Outcome, Answers, AreLexed, Parsed, Tokenized, answers, place_at}
+use Rattle.ep_reading.specs.Served.{Outcome, Answers, Parsed, answers, place_at}
 use Rattle.ep_reading.specs.Steps.{IsFormOf, IsFormulaOf, StopsBy, nothing_behind}
-use Rattle.ep_reading.proofs.Steps.{Parsed-weaker, Sized-weaker, Tokenized-weaker}
-use Rattle.ep_reading.proofs.Told.{IsBehind, long_formula_is_behind, refusal_is_behind}
+use Rattle.ep_reading.proofs.Steps.{Parsed-weaker, Sized-weaker}
+use Rattle.ep_reading.proofs.Told.{IsBehind, long_formula_is_behind, refusal_is_behind, text_cause_behind}
 
 -- ---- ground forms
 
@@ -58,34 +60,25 @@ formed_is_behind g found tree (Some e) P status text b h = fault_is_behind found
 
 -- ---- texts
 
-abbrev Behind : GroundTask → List ℕ → (Node → Outcome → Type 0) → Lexed → Outcome → Type 0
-Behind g text P found = Parsed formulas Formula text found (λ tree. Formed g found tree P)
-
 pub FormulaRead-weaker : (g : GroundTask) (text : List ℕ) (P Q : Node → Outcome → Type 0) (o : Outcome) → ((f : Node) → P f o → Q f o)
     → FormulaRead g text P o → FormulaRead g text Q o
 FormulaRead-weaker g text P Q o f h =
-    Tokenized-weaker Formula text (Behind g text P) (Behind g text Q) o
-    (λ found lexed. Parsed-weaker formulas Formula text found (λ tree. Formed g found tree P) (λ tree. Formed g found tree Q) o
-    (λ tree reads. Formed-weaker g found tree P Q o f)) h
+    Parsed-weaker formulas Formula text (λ found tree. Formed g found tree P) (λ found tree. Formed g found tree Q) o
+    (λ found tree is. Formed-weaker g found tree P Q o f) h
 
 pub FormulaRead-behind : (g : GroundTask) (text : List ℕ) (f : Node) (P : Node → Outcome → Type 0) (o : Outcome) → IsFormulaOf g text f → P f o → FormulaRead g text P o
-FormulaRead-behind g text f P o is h = inr (inr (is.found, is.lexed, inr (inr (is.tree, is.reads, Formed-behind g is.found is.tree f P o is.form h))))
+FormulaRead-behind g text f P o is h = inr (is.found, is.tree, is.is_text, Formed-behind g is.found is.tree f P o is.form h)
 
-pub stops_at_formula_tokens : (g : GroundTask) (text : List ℕ) (stop : Stop) → StopsBy (Tokenized Formula text nothing_behind) stop → StopsBy (FormulaRead g text nothing_behind) stop
-stops_at_formula_tokens g text (Told answer) h =
-    Tokenized-weaker Formula text nothing_behind (Behind g text nothing_behind) (answers answer) (λ found lexed none. absurd none) h
-stops_at_formula_tokens g text OutOfMemory h = h
+pub stops_at_formula_text : (g : GroundTask) (text : List ℕ) (stop : Stop)
+    → StopsBy (Parsed formulas Formula text (λ _. nothing_behind)) stop → StopsBy (FormulaRead g text nothing_behind) stop
+stops_at_formula_text g text (Told answer) h =
+    Parsed-weaker formulas Formula text (λ _. nothing_behind) (λ found tree. Formed g found tree nothing_behind) (answers answer) (λ found tree is none. absurd none) h
+stops_at_formula_text g text OutOfMemory h = h
 
-pub stops_at_formula_tree : (g : GroundTask) (text : List ℕ) (found : Lexed) (stop : Stop) → AreLexed text found
-    → StopsBy (Parsed formulas Formula text found nothing_behind) stop → StopsBy (FormulaRead g text nothing_behind) stop
-stops_at_formula_tree g text found (Told answer) lexed h =
-    inr (inr (found, lexed, Parsed-weaker formulas Formula text found nothing_behind (λ tree. Formed g found tree nothing_behind) (answers answer) (λ tree reads none. absurd none) h))
-stops_at_formula_tree g text found OutOfMemory lexed h = h
-
-pub stops_at_form : (g : GroundTask) (text : List ℕ) (found : Lexed) (tree : FormulaTree) (stop : Stop) → AreLexed text found → Reads formulas (spellings text found.tokens) tree
+pub stops_at_form : (g : GroundTask) (text : List ℕ) (found : Lexed) (tree : FormulaTree) (stop : Stop) → IsTextOf formulas text found tree
     → StopsBy (Formed g found tree nothing_behind) stop → StopsBy (FormulaRead g text nothing_behind) stop
-stops_at_form g text found tree (Told answer) lexed reads h = inr (inr (found, lexed, inr (inr (tree, reads, h))))
-stops_at_form g text found tree OutOfMemory lexed reads h = h
+stops_at_form g text found tree (Told answer) is h = inr (found, tree, is, h)
+stops_at_form g text found tree OutOfMemory is h = h
 
 -- ---- words
 
@@ -94,11 +87,11 @@ pub FormulaWord-weaker : (g : GroundTask) (word : List ℕ) (P Q : Node → Outc
 unfolding FormulaWord
 FormulaWord-weaker g word P Q o f h = Sized-weaker Formula word (λ text. FormulaRead g text P) (λ text. FormulaRead g text Q) o (λ text r. FormulaRead-weaker g text P Q o f r) h
 
-pub FormulaWord-long : (g : GroundTask) (word : List ℕ) → 1048576 + 1 ≤ length word → StopsBy (FormulaWord g word nothing_behind) (Told (Refused Formula cause.TooLong))
+pub FormulaWord-long : (g : GroundTask) (word : List ℕ) → MOST_BYTES + 1 ≤ length word → StopsBy (FormulaWord g word nothing_behind) (Told (Refused Formula cause.TooLong))
 unfolding FormulaWord
 FormulaWord-long g word l = inl (l, refl)
 
-pub FormulaWord-short : (g : GroundTask) (word : List ℕ) (stop : Stop) → length word ≤ 1048576 → StopsBy (FormulaRead g word nothing_behind) stop → StopsBy (FormulaWord g word nothing_behind) stop
+pub FormulaWord-short : (g : GroundTask) (word : List ℕ) (stop : Stop) → length word ≤ MOST_BYTES → StopsBy (FormulaRead g word nothing_behind) stop → StopsBy (FormulaWord g word nothing_behind) stop
 unfolding FormulaWord
 FormulaWord-short g word (Told answer) l h = inr (l, h)
 FormulaWord-short g word OutOfMemory l h = h
@@ -112,9 +105,7 @@ pub formula_is_behind : (g : GroundTask) (word : List ℕ) (P : Node → Outcome
     → FormulaWord g word P (Answers status text) → IsBehind status text
 unfolding FormulaWord
 formula_is_behind g word P status text b (inl long) = long_formula_is_behind status text long.1
-formula_is_behind g word P status text b (inr (few, inl stray)) = refusal_is_behind status text Formula (cause.StrayByte stray.0) tt stray.2
-formula_is_behind g word P status text b (inr (few, inr (inl many))) = refusal_is_behind status text Formula cause.TooManyTokens tt many.1
-formula_is_behind g word P status text b (inr (few, inr (inr (found, lexed, inl syntax)))) = refusal_is_behind status text Formula (cause.Syntax (place_at found syntax.0)) tt syntax.2
-formula_is_behind g word P status text b (inr (few, inr (inr (found, lexed, inr (inl deep))))) = refusal_is_behind status text Formula (cause.TooDeep (place_at found deep.0)) tt deep.2
-formula_is_behind g word P status text b (inr (few, inr (inr (found, lexed, inr (inr (tree, reads, h)))))) =
+formula_is_behind g word P status text b (inr (few, inl fault)) =
+    refusal_is_behind status text Formula fault.cause (text_cause_behind fault.error fault.cause fault.is_cause) fault.told
+formula_is_behind g word P status text b (inr (few, inr (found, tree, is, h))) =
     formed_is_behind g found tree (formula_refusal (declarations g.tree) tree) P status text b h

@@ -6,3 +6,4 @@ pub mod PlanFileLemmas
 pub mod RunLemmas
 pub mod Steps
 pub mod Told
+pub mod CallerLemmas

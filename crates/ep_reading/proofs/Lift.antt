@@ -1,17 +1,16 @@
 -- From the answer of a step to the answer of its command.
 use Rattle.std.proofs.Common.{◌≡◌, ◌≤◌, ◌↔◌, ◌+◌, ◌-◌, ◌^◌, min, ℕ, List, length, IfSome, IfNone, IsSome, Option, Some, None, MatchOption, Result, inl, inr, sym, subst, arith}
 use Rattle.std.proofs.lemmas.Result.{MatchResult-weaker}
-use Rattle.ep_io.specs.Counts.{FaultSince, RoseBeyond}
 use Rattle.ep_io.specs.Library.{LibraryState, FileMap, file_of}
 use Rattle.ep_tree.specs.declared.tree.TaskTree.{TaskTree}
 use Rattle.ep_lex.specs.Tokens.{Lexed}
 use Rattle.ep_types.specs.Faults.{first_fault}
 use Rattle.ep_types.specs.Tasks.{declarations, task_uses}
 use Rattle.ep_types.specs.declared.fault.TypeFault.{TypeFault}
-use Rattle.ep_parts.specs.Task.{GroundTask}
+use Rattle.ep_ground.specs.Task.{GroundTask}
 use Rattle.ep_ground.specs.Grounding.{fault_of, task_of}
-use Rattle.ep_parts.specs.declared.fault.GroundError.{GroundError}
-use Rattle.ep_parts.specs.declared.fault.GroundError.TheVariants as fault
+use Rattle.ep_ground.specs.declared.fault.GroundError.{GroundError}
+use Rattle.ep_ground.specs.declared.fault.GroundError.TheVariants as fault
 use Rattle.ep_answer.specs.declared.answer.Answer.{Answer}
 use Rattle.ep_answer.specs.declared.answer.Answer.TheVariants.{Refused}
 use Rattle.ep_answer.specs.declared.answer.Stop.{Stop}
@@ -28,7 +27,9 @@ use Rattle.ep_reading.specs.Served.{Outcome, Answers, StopsAt, Sized, Fetched, T
 use Rattle.ep_reading.specs.Steps.{OnlyFile, IsFetched, IsTaskFile, StopsAtFetch, StopsAtTask, Serves, StopsAnswer, StopsBy, StopsWork, nothing_behind}
 use Rattle.ep_reading.proofs.Steps.{Fetched-weaker, TaskRead-weaker, TaskRead-behind}
 use Rattle.ep_reading.specs.Guides.{AnswerNeeds, NeedsGuide, StopNeeds}
-use Rattle.ep_reading.proofs.Told.{IsBehind, IsBehindFetch, refusal_is_behind}
+use Rattle.ep_reading.proofs.Told.{IsBehind, IsBehindFetch, refusal_is_behind, text_cause_behind}
+use Rattle.ep_base.specs.Counts.{Rose, RoseBeyond}
+use Rattle.ep_lex.specs.declared.limits.TheConstants.{MOST_BYTES}
 
 pub some_map : {A : Type 0} {P Q : A → Type 0} (o : Option A) → ((x : A) → P x → Q x) → IfSome o P → IfSome o Q
 some_map None f h = h
@@ -122,11 +123,8 @@ module _ (status : Status) (text : List ℕ) (R : Type 0) (refused : FromRefusal
   -- the text is refused, or what stands behind the reading is told
   pub by_reading : (bytes : List ℕ) (P : GroundTask → Outcome → Type 0) → ((g : GroundTask) → P g (Answers status text) → R) → TaskRead bytes P (Answers status text) → R
   unfolding TaskRead
-  by_reading bytes P f (inl stray) = refused (cause.StrayByte stray.0) tt stray.2
-  by_reading bytes P f (inr (inl many)) = refused cause.TooManyTokens tt many.1
-  by_reading bytes P f (inr (inr (found, lexed, inl syntax))) = refused (cause.Syntax (place_at found syntax.0)) tt syntax.2
-  by_reading bytes P f (inr (inr (found, lexed, inr (inl deep)))) = refused (cause.TooDeep (place_at found deep.0)) tt deep.2
-  by_reading bytes P f (inr (inr (found, lexed, inr (inr (tree, reads, h))))) = by_types found tree P (first_fault (task_uses tree)) f h
+  by_reading bytes P f (inl fault) = refused fault.cause (text_cause_behind fault.error fault.cause fault.is_cause) fault.told
+  by_reading bytes P f (inr (found, tree, is, h)) = by_types found tree P (first_fault (task_uses tree)) f h
 
 pub read_is_behind : (bytes : List ℕ) (P : GroundTask → Outcome → Type 0) (status : Status) (text : List ℕ)
     → ((g : GroundTask) → P g (Answers status text) → IsBehind status text)
@@ -147,7 +145,7 @@ read_needs_none bytes OutOfMemory h n = absurd n
 
 -- the file's bytes are these, and what is read of them is what is read of the file
 pub file_read : (held : Option FileMap) (s : Subject) (name bytes : List ℕ) (next : List ℕ → Outcome → Type 0) (o : Outcome)
-    → (length bytes ≤ 1048576) × IfSome held (λ files. file_of files name ≡ Some bytes) → next bytes o → IfSome held (λ files. Fetched files s name next o)
+    → (length bytes ≤ MOST_BYTES) × IfSome held (λ files. file_of files name ≡ Some bytes) → next bytes o → IfSome held (λ files. Fetched files s name next o)
 file_read held s name bytes next o fetched h =
     let M : Option (List ℕ) → Type 0 = λ f. MatchOption f (o ≡ answers (Refused s cause.NoSuchFile)) (λ b. Sized s b next o) in
     some_map held (λ files is. inr (subst M (sym is) (inr (fetched.0, h)))) fetched.1
@@ -218,11 +216,11 @@ later work names old mid new status text on h = record {
   too_long = λ s f e. taken_before old.held mid.held on.held (h.too_long s f e);
 }
   where
-    since_before : (a b c : ℕ) → a ≤ b → FaultSince b c → FaultSince a c
+    since_before : (a b c : ℕ) → a ≤ b → Rose b c → Rose a c
     since_before a b c l h = let m = less_min (a + 1) (b + 1) (2 ^ 64 - 1) (omega (arith, l)) in omega (arith, m, h)
 
-    taken_before : (one other : Option FileMap) → other ≡ one → IfNone other (RoseBeyond 1048576 mid.taken new.taken) → IfNone one (RoseBeyond 1048576 old.taken new.taken)
-    taken_before None None e k = let m = less_min (old.taken + (1048576 + 1)) (mid.taken + (1048576 + 1)) (2 ^ 64 - 1) (omega (arith, on.taken)) in omega (arith, m, k)
+    taken_before : (one other : Option FileMap) → other ≡ one → IfNone other (RoseBeyond MOST_BYTES mid.taken new.taken) → IfNone one (RoseBeyond MOST_BYTES old.taken new.taken)
+    taken_before None None e k = let m = less_min (old.taken + (MOST_BYTES + 1)) (mid.taken + (MOST_BYTES + 1)) (2 ^ 64 - 1) (omega (arith, on.taken)) in omega (arith, m, k)
     taken_before (Some f) other e k = tt
     taken_before None (Some f) e k = cc
 

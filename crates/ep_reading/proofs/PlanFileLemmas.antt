@@ -3,7 +3,7 @@ use Rattle.std.specs.Str.{bytes_eq}
 use Rattle.std.proofs.Common.{◌≡◌, ◌≢◌, ◌⊎◌, ℕ, Bool, false, ◌∙◌, List, [], Option, MatchOption, IfSome, inl, inr, refl, sym, subst}
 use Rattle.ep_logic.specs.declared.ids.ActionId.{ActionId}
 use Rattle.ep_theory.specs.Kripke.{Kripke}
-use Rattle.ep_parts.specs.Task.{GroundTask}
+use Rattle.ep_ground.specs.Task.{GroundTask}
 use Rattle.ep_plan.specs.Runs.{RunUnder}
 use Rattle.ep_plan.specs.declared.runs.Outcome.TheVariants as run
 use Rattle.ep_plan_text.specs.PlanFiles.{IsFault, IsPlan}

@@ -7,13 +7,12 @@ use Rattle.ep_logic.specs.declared.ids.ActionId.{ActionId}
 use Rattle.ep_theory.specs.Kripke.{Kripke}
 use Rattle.ep_theory.specs.Product.{product_of}
 use Rattle.ep_theory.specs.PlanningTask.{PlanningTask, IsPlanningTask, IsSmall}
-use Rattle.ep_problem.specs.Plans.{after}
-use Rattle.ep_problem.proofs.Steps.{step_some}
-use Rattle.ep_problem.proofs.Runs.{after-snoc, after_state}
+use Rattle.ep_theory.specs.Plans.{after}
+use Rattle.ep_theory.proofs.CallerLemmas.{step_some, after-snoc, after_state}
 use Rattle.ep_plan.specs.Runs.{AreOf, IsMade, RunUnder}
 use Rattle.ep_plan.specs.declared.runs.Outcome.{Outcome}
 use Rattle.ep_plan.specs.declared.runs.Outcome.TheVariants.{After}
-use Rattle.ep_parts.specs.Task.{GroundTask}
+use Rattle.ep_ground.specs.Task.{GroundTask}
 use Rattle.ep_ground.specs.Grounding.{IsNamed}
 use Rattle.ep_reading.specs.PlanFile.{run_size, AreItsActions}
 use Rattle.ep_reading.specs.Steps.{IsLeft}

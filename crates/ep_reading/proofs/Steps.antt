@@ -1,20 +1,23 @@
 -- How a step of the work goes on, and how it ends the work.
 use Rattle.std.proofs.Common.{◌≡◌, ℕ, List, length, Option, Some, None, MatchOption, ◌⊎◌, inl, inr, sym, ap, subst, ◌∙◌, arith}
 use Rattle.std.proofs.lemmas.List.{length-map}
-use Rattle.ep_lex.specs.Tokens.{Lexed, spellings, spelling}
+use Rattle.ep_lex.specs.Tokens.{Lexed, spelling}
+use Rattle.ep_reader.specs.Texts.{IsTextOf, IsTextFault}
+use Rattle.ep_reader.specs.declared.text.TextError.{TextError}
+use Rattle.ep_reader.specs.declared.text.TextError.TheVariants as text
 use Rattle.ep_tree.specs.Formed.{IsFormedTask}
 use Rattle.ep_tree.specs.Marks.{IsShallow}
-use Rattle.ep_tree.specs.Grammar.{Grammar, tasks, spelling_of, Reads}
+use Rattle.ep_tree.specs.Grammar.{Grammar, tasks, spelling_of}
 use Rattle.ep_tree.specs.declared.tree.TaskTree.{TaskTree}
 use Rattle.ep_types.specs.Places.{Uses}
 use Rattle.ep_types.specs.Faults.{first_fault}
 use Rattle.ep_types.specs.Tasks.{HasNoFault, declarations, task_uses}
 use Rattle.ep_types.specs.declared.fault.TypeFault.{TypeFault}
-use Rattle.ep_parts.specs.Task.{GroundTask}
+use Rattle.ep_ground.specs.Task.{GroundTask}
 use Rattle.ep_tree.specs.Grammar.{IsRead}
 use Rattle.ep_ground.specs.Grounding.{fault_of, task_of}
-use Rattle.ep_parts.specs.declared.fault.GroundError.{GroundError}
-use Rattle.ep_parts.specs.declared.fault.GroundError.TheVariants as fault
+use Rattle.ep_ground.specs.declared.fault.GroundError.{GroundError}
+use Rattle.ep_ground.specs.declared.fault.GroundError.TheVariants as fault
 use Rattle.ep_io.specs.Library.{FileMap, file_of}
 use Rattle.ep_answer.specs.declared.answer.Answer.TheVariants.{Refused}
 use Rattle.ep_answer.specs.declared.answer.Stop.{Stop}
@@ -22,8 +25,8 @@ use Rattle.ep_answer.specs.declared.answer.Stop.TheVariants.{Told, OutOfMemory}
 use Rattle.ep_answer.specs.declared.cause.Cause.TheVariants as cause
 use Rattle.ep_answer.specs.declared.cause.Subject.{Subject}
 use Rattle.ep_answer.specs.declared.cause.Subject.TheVariants.{Task}
-use Rattle.ep_reading.specs.Served.{Outcome, AreLexed, Sized, Fetched, Tokenized, Parsed, Judged, TellsCause, Grounded, TaskRead, answers, place_at}
-use Rattle.ep_reading.specs.Steps.{IsTreeOf, IsTaskOf, StopsBy, nothing_behind}
+use Rattle.ep_reading.specs.Served.{Outcome, Sized, Fetched, IsTextCause, Parsed, Judged, TellsCause, Grounded, TaskRead, answers, place_at}
+use Rattle.ep_reading.specs.Steps.{IsTreeOf, IsTaskOf, StopsAtText, StopsBy, nothing_behind}
 
 -- ---- what may stand behind a step
 
@@ -44,18 +47,18 @@ pub Fetched-weaker : (files : FileMap) (s : Subject) (name : List ℕ) (P Q : Li
 Fetched-weaker files s name P Q o f (inl stops) = inl stops
 Fetched-weaker files s name P Q o f (inr h) = inr (fetched_option s P Q o (file_of files name) f h)
 
-pub Tokenized-weaker : (s : Subject) (bytes : List ℕ) (P Q : Lexed → Outcome → Type 0) (o : Outcome)
-    → ((found : Lexed) → AreLexed bytes found → P found o → Q found o) → Tokenized s bytes P o → Tokenized s bytes Q o
-Tokenized-weaker s bytes P Q o f (inl stray) = inl stray
-Tokenized-weaker s bytes P Q o f (inr (inl many)) = inr (inl many)
-Tokenized-weaker s bytes P Q o f (inr (inr p)) = inr (inr (p.0, p.1, f p.0 p.1 p.2))
+pub Parsed-weaker : {A : Type 0} (kind : Grammar A) (s : Subject) (bytes : List ℕ) (P Q : Lexed → A → Outcome → Type 0) (o : Outcome)
+    → ((found : Lexed) (tree : A) → IsTextOf kind bytes found tree → P found tree o → Q found tree o)
+    → Parsed kind s bytes P o → Parsed kind s bytes Q o
+Parsed-weaker kind s bytes P Q o f (inl fault) = inl fault
+Parsed-weaker kind s bytes P Q o f (inr p) = inr (p.0, p.1, p.2, f p.0 p.1 p.2 p.3)
 
-pub Parsed-weaker : {A : Type 0} (kind : Grammar A) (s : Subject) (bytes : List ℕ) (found : Lexed) (P Q : A → Outcome → Type 0) (o : Outcome)
-    → ((tree : A) → Reads kind (spellings bytes found.tokens) tree → P tree o → Q tree o)
-    → Parsed kind s bytes found P o → Parsed kind s bytes found Q o
-Parsed-weaker kind s bytes found P Q o f (inl syntax) = inl syntax
-Parsed-weaker kind s bytes found P Q o f (inr (inl deep)) = inr (inl deep)
-Parsed-weaker kind s bytes found P Q o f (inr (inr p)) = inr (inr (p.0, p.1, f p.0 p.1 p.2))
+-- the fault that is told is the text's
+pub parsed_fault : {A : Type 0} (kind : Grammar A) (s : Subject) (bytes : List ℕ) (P : Lexed → A → Outcome → Type 0) (e : TextError) (stop : Stop)
+    → (e ≡ text.OutOfMemory) ⊎ IsTextFault kind bytes e → StopsAtText e s stop → StopsBy (Parsed kind s bytes P) stop
+parsed_fault kind s bytes P e (Told answer) (inl want) h = absurd (subst (λ z. IsTextCause z h.0) want h.1)
+parsed_fault kind s bytes P e (Told answer) (inr fault) h = inl (record { error = e; fault = fault; cause = h.0; is_cause = h.1; told = h.2 })
+parsed_fault kind s bytes P e OutOfMemory f h = tt
 
 judged_option : (s : Subject) (found : Lexed) (first : Option (TypeFault × ℕ)) (P Q : Outcome → Type 0) (o : Outcome) → (P o → Q o)
     → MatchOption first (P o) (λ fault. o ≡ answers (Refused s (cause.Mistyped fault.0 (place_at found fault.1))))
@@ -102,10 +105,8 @@ pub TaskRead-weaker : (bytes : List ℕ) (P Q : GroundTask → Outcome → Type 
     → ((g : GroundTask) → P g o → Q g o) → TaskRead bytes P o → TaskRead bytes Q o
 unfolding TaskRead
 TaskRead-weaker bytes P Q o f h =
-    Tokenized-weaker Task bytes (λ found. Parsed tasks Task bytes found (Typed found P)) (λ found. Parsed tasks Task bytes found (Typed found Q)) o
-    (λ found lexed. Parsed-weaker tasks Task bytes found (Typed found P) (Typed found Q) o
-    (λ tree reads. Judged-weaker Task found (task_uses tree) (Grounded found tree P) (Grounded found tree Q) o
-    (Grounded-weaker found tree P Q o f))) h
+    Parsed-weaker tasks Task bytes (λ found. Typed found P) (λ found. Typed found Q) o
+    (λ found tree is. Judged-weaker Task found (task_uses tree) (Grounded found tree P) (Grounded found tree Q) o (Grounded-weaker found tree P Q o f)) h
 
 judged_none : (found : Lexed) (tree : TaskTree) (P : GroundTask → Outcome → Type 0) (o : Outcome) → HasNoFault tree → Grounded found tree P o → Typed found P tree o
 judged_none found tree P o none h =
@@ -115,7 +116,7 @@ judged_none found tree P o none h =
 pub TaskRead-tree : (bytes : List ℕ) (found : Lexed) (tree : TaskTree) (P : GroundTask → Outcome → Type 0) (o : Outcome)
     → IsTreeOf bytes found tree → Grounded found tree P o → TaskRead bytes P o
 unfolding TaskRead
-TaskRead-tree bytes found tree P o t h = inr (inr (found, t.lexed, inr (inr (tree, t.reads, judged_none found tree P o t.typed h))))
+TaskRead-tree bytes found tree P o t h = inr (found, tree, t.text, judged_none found tree P o t.typed h)
 
 pub TaskRead-behind : (bytes : List ℕ) (g : GroundTask) (P : GroundTask → Outcome → Type 0) (o : Outcome) → IsTaskOf bytes g → P g o → TaskRead bytes P o
 TaskRead-behind bytes g P o t h =
@@ -123,25 +124,18 @@ TaskRead-behind bytes g P o t h =
 
 -- ---- where the reading of a task ends
 
-pub stops_at_tokens : (bytes : List ℕ) (stop : Stop) → StopsBy (Tokenized Task bytes nothing_behind) stop → StopsBy (TaskRead bytes nothing_behind) stop
+pub stops_at_text : (bytes : List ℕ) (stop : Stop) → StopsBy (Parsed tasks Task bytes (λ _. nothing_behind)) stop → StopsBy (TaskRead bytes nothing_behind) stop
 unfolding TaskRead
-stops_at_tokens bytes (Told answer) h =
-    Tokenized-weaker Task bytes nothing_behind (λ found. Parsed tasks Task bytes found (Typed found nothing_behind)) (answers answer) (λ found lexed none. absurd none) h
-stops_at_tokens bytes OutOfMemory h = h
+stops_at_text bytes (Told answer) h =
+    Parsed-weaker tasks Task bytes (λ _. nothing_behind) (λ found. Typed found nothing_behind) (answers answer) (λ found tree is none. absurd none) h
+stops_at_text bytes OutOfMemory h = h
 
-pub stops_at_tree : (bytes : List ℕ) (found : Lexed) (stop : Stop) → AreLexed bytes found
-    → StopsBy (Parsed tasks Task bytes found nothing_behind) stop → StopsBy (TaskRead bytes nothing_behind) stop
-unfolding TaskRead
-stops_at_tree bytes found (Told answer) lexed h =
-    inr (inr (found, lexed, Parsed-weaker tasks Task bytes found nothing_behind (Typed found nothing_behind) (answers answer) (λ tree reads none. absurd none) h))
-stops_at_tree bytes found OutOfMemory lexed h = h
-
-pub stops_at_types : (bytes : List ℕ) (found : Lexed) (tree : TaskTree) (stop : Stop) → AreLexed bytes found → Reads tasks (spellings bytes found.tokens) tree
+pub stops_at_types : (bytes : List ℕ) (found : Lexed) (tree : TaskTree) (stop : Stop) → IsTextOf tasks bytes found tree
     → StopsBy (Judged Task found (task_uses tree) (nothing_behind tree)) stop → StopsBy (TaskRead bytes nothing_behind) stop
 unfolding TaskRead
-stops_at_types bytes found tree (Told answer) lexed reads h =
-    inr (inr (found, lexed, inr (inr (tree, reads, Judged-weaker Task found (task_uses tree) (nothing_behind tree) (Grounded found tree nothing_behind) (answers answer) (λ none. absurd none) h))))
-stops_at_types bytes found tree OutOfMemory lexed reads h = h
+stops_at_types bytes found tree (Told answer) is h =
+    inr (found, tree, is, Judged-weaker Task found (task_uses tree) (nothing_behind tree) (Grounded found tree nothing_behind) (answers answer) (λ none. absurd none) h)
+stops_at_types bytes found tree OutOfMemory is h = h
 
 pub stops_at_ground : (bytes : List ℕ) (found : Lexed) (tree : TaskTree) (stop : Stop) → IsTreeOf bytes found tree
     → StopsBy (Grounded found tree nothing_behind) stop → StopsBy (TaskRead bytes nothing_behind) stop
@@ -150,21 +144,20 @@ stops_at_ground bytes found tree OutOfMemory t h = h
 
 -- ---- what is known of the tree of a text
 
-pub tree_of : (bytes : List ℕ) (found : Lexed) (tree typed : TaskTree) → AreLexed bytes found → Reads tasks (spellings bytes found.tokens) tree
+pub tree_of : (bytes : List ℕ) (found : Lexed) (tree typed : TaskTree) → IsTextOf tasks bytes found tree
     → (typed ≡ tree) × HasNoFault tree → IsTreeOf bytes found typed
-tree_of bytes found tree typed lexed reads h = record {
-  lexed = lexed;
-  reads = subst (Reads tasks (spellings bytes found.tokens)) (sym h.0) reads;
+tree_of bytes found tree typed is h = record {
+  text = subst (IsTextOf tasks bytes found) (sym h.0) is;
   typed = subst HasNoFault (sym h.0) h.1;
 }
 
 pub tree_is_read : (bytes : List ℕ) (found : Lexed) (tree : TaskTree) → IsTreeOf bytes found tree → IsRead tree
 tree_is_read bytes found tree t =
-    let count : length (spelling_of tasks tree) ≡ length found.tokens = ap length t.reads.spelled ∙ length-map found.tokens (spelling bytes) in
+    let count : length (spelling_of tasks tree) ≡ length found.tokens = ap length t.text.reads.spelled ∙ length-map found.tokens (spelling bytes) in
     record {
-      formed = t.reads.formed;
-      shallow = t.reads.shallow;
-      few = omega (arith, count, t.lexed.few);
+      formed = t.text.reads.formed;
+      shallow = t.text.reads.shallow;
+      few = omega (arith, count, t.text.lexed.few);
     }
 
 pub ground_formed : (tree : TaskTree) (g : GroundTask) → g ≡ task_of tree → IsFormedTask tree → IsFormedTask g.tree

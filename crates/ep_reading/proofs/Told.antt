@@ -1,5 +1,5 @@
 -- What is told behind a fetch is not what a fetch tells.
-use Rattle.std.proofs.Common.{sym, ◌∙◌, append_assoc, codes, ◌≡◌, ◌≢◌, ℕ, List, [], ◌∷◌, ◌++◌, Bool, false, true, not, ◌==◌, drop, get_or, eqb, refl, ap, arith, rules}
+use Rattle.std.proofs.Common.{sym, ◌∙◌, append_assoc, codes, ◌≡◌, ◌≢◌, ℕ, List, [], ◌∷◌, ◌++◌, Bool, false, true, not, ◌==◌, drop, get_or, eqb, refl, ap, subst, arith, rules}
 use Rattle.std.specs.Bool.{⊤}
 use Rattle.std.specs.List.{list_all}
 use Rattle.ep_types.specs.declared.fault.TypeFault.TheVariants as type_fault
@@ -15,7 +15,9 @@ use Rattle.ep_answer.specs.declared.status.Status.{Status}
 use Rattle.ep_answer.specs.declared.status.Status.TheVariants as done
 use Rattle.ep_answer.specs.Answer.{answer_text, answer_status, subject_text, cause_text}
 use Rattle.ep_reading.specs.Run.{IsOfFile}
-use Rattle.ep_reading.specs.Served.{Answers, answers}
+use Rattle.ep_reader.specs.declared.text.TextError.{TextError}
+use Rattle.ep_reader.specs.declared.text.TextError.TheVariants as text_error
+use Rattle.ep_reading.specs.Served.{Answers, IsTextCause, answers}
 use Rattle.ep_answer.specs.Status.{IsWritten}
 
 -- a status and a text that no fetch gives
@@ -63,6 +65,13 @@ IsBehindFetch cause.NoDesignated = ⊤
 IsBehindFetch cause.OtherTask = ⊤
 IsBehindFetch (cause.UnknownAction line) = ⊤
 IsBehindFetch cause.WrongCount = ⊤
+
+pub text_cause_behind : (e : TextError) (c : Cause) → IsTextCause e c → IsBehindFetch c
+text_cause_behind (text_error.Stray at) c is = subst IsBehindFetch (sym is) tt
+text_cause_behind text_error.TooManyTokens c is = subst IsBehindFetch (sym is) tt
+text_cause_behind (text_error.Syntax token line) c is = subst IsBehindFetch (sym is) tt
+text_cause_behind (text_error.TooDeep token line) c is = subst IsBehindFetch (sym is) tt
+text_cause_behind text_error.OutOfMemory c is = absurd is
 
 abbrev line : Cause → List ℕ
 line cause = cause_text cause ++ 10 ∷ []

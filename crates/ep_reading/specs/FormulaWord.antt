@@ -5,15 +5,15 @@ use Rattle.ep_lex.specs.Tokens.{Lexed}
 use Rattle.ep_tree.specs.Grammar.{formulas}
 use Rattle.ep_tree.specs.declared.tree.FormulaTree.{FormulaTree}
 use Rattle.ep_types.specs.Tasks.{declarations}
-use Rattle.ep_universe.specs.FormulaFaults.{formula_refusal}
+use Rattle.ep_ground.specs.FormulaFaults.{formula_refusal}
 use Rattle.ep_universe.specs.Formulas.{ground_of}
-use Rattle.ep_universe.specs.declared.fault.FormulaFault.{FormulaFault}
-use Rattle.ep_universe.specs.declared.fault.FormulaFault.TheVariants as fault
-use Rattle.ep_parts.specs.Task.{GroundTask}
+use Rattle.ep_ground.specs.declared.formula_fault.FormulaFault.{FormulaFault}
+use Rattle.ep_ground.specs.declared.formula_fault.FormulaFault.TheVariants as fault
+use Rattle.ep_ground.specs.Task.{GroundTask}
 use Rattle.ep_answer.specs.declared.answer.Answer.TheVariants.{Refused}
 use Rattle.ep_answer.specs.declared.cause.Cause.TheVariants as cause
 use Rattle.ep_answer.specs.declared.cause.Subject.TheVariants.{Formula}
-use Rattle.ep_reading.specs.Served.{Outcome, Parsed, Sized, Tokenized, answers, place_at}
+use Rattle.ep_reading.specs.Served.{Outcome, Parsed, Sized, answers, place_at}
 
 -- a fault of types or of size is told; want of memory is none
 abbrev pub TellsFormulaFault : Lexed → FormulaFault → Outcome → Type 0
@@ -32,7 +32,7 @@ Formed g found tree next outcome =
 -- the ground form of the text of a formula
 abbrev pub FormulaRead : GroundTask → List ℕ → (Node → Outcome → Type 0) → Outcome → Type 0
 FormulaRead g text next outcome =
-    Tokenized Formula text (λ found. Parsed formulas Formula text found (λ tree. Formed g found tree next)) outcome
+    Parsed formulas Formula text (λ found tree. Formed g found tree next) outcome
 
 -- the formula of a word
 unfoldable pub FormulaWord : GroundTask → List ℕ → (Node → Outcome → Type 0) → Outcome → Type 0

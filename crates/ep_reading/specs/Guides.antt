@@ -1,8 +1,9 @@
 -- Answers that rest on the scores of a guide.
 use Rattle.std.specs.Prelude.{◌≡◌, ℕ, ⊤, List, [], ◌++◌, Option, Some, Result, Ok, Err}
-use Rattle.ep_lex.specs.declared.token.Token.{Token}
+use Rattle.ep_lex.specs.Tokens.{Lexed}
+use Rattle.ep_tree.specs.Grammar.{plans}
 use Rattle.ep_tree.specs.declared.tree.PlanTree.{PlanTree}
-use Rattle.ep_plan_text.specs.PlanFiles.{IsFile}
+use Rattle.ep_reader.specs.Texts.{IsTextOf}
 use Rattle.ep_answer.specs.declared.answer.Answer.{Answer}
 use Rattle.ep_answer.specs.declared.answer.Stop.{Stop}
 use Rattle.ep_answer.specs.declared.answer.Stop.TheVariants.{Told, OutOfMemory}
@@ -12,9 +13,9 @@ use Rattle.ep_answer.specs.Answer.{answer_status, answer_text}
 
 -- the text is a plan file that lists a call
 pub record ListsACall (text : List ℕ) : Type 0 where
-  pub tokens : List Token
+  pub found : Lexed
   pub tree : PlanTree
-  pub file : IsFile text tokens tree
+  pub file : IsTextOf plans text found tree
   pub lists : tree.calls ≡ [] → ⊥
 
 -- what is told is a no, or a plan that is not empty

@@ -1,9 +1,11 @@
 -- The plan of a word: a plan file of the task, or the empty plan; and its run.
 use Rattle.std.specs.Prelude.{◌≡◌, ◌≢◌, ◌⊎◌, ℕ, List, [], codes, ◌<◌, All, length}
+use Rattle.ep_plan.specs.declared.verdicts.TheConstants.{MOST_LINKS}
+use Rattle.ep_reading.specs.declared.runs.TheConstants.{MOST_RUN_WORLDS}
 use Rattle.ep_logic.specs.declared.ids.ActionId.{ActionId}
 use Rattle.ep_theory.specs.Kripke.{Kripke}
 use Rattle.ep_update.specs.declared.update.Size.{Size}
-use Rattle.ep_parts.specs.Task.{GroundTask}
+use Rattle.ep_ground.specs.Task.{GroundTask}
 use Rattle.ep_plan.specs.Runs.{RunUnder}
 use Rattle.ep_plan.specs.declared.runs.Outcome.TheVariants as run
 use Rattle.ep_plan_text.specs.PlanFiles.{IsFault, IsPlan}
@@ -18,7 +20,7 @@ use Rattle.ep_answer.specs.declared.run_stop.RunStop.{RunStop}
 use Rattle.ep_answer.specs.declared.run_stop.RunStop.TheVariants.{Stuck, SpentWorlds, SpentLinks}
 use Rattle.ep_answer.specs.declared.run_stop.Whose.{Whose}
 use Rattle.ep_reading.specs.Served.{Outcome, Fetched, answers}
-use Rattle.ep_answer.specs.Answer.{line}
+use Rattle.ep_base.specs.Texts.{line}
 
 -- ---- plan files
 
@@ -67,7 +69,7 @@ AreItsActions g p = All (λ a. a.n < length g.actions) p
 
 -- the size that the steps of a plan may have in the commands that go on with what it leaves
 abbrev pub run_size : Size
-run_size = record { worlds = 4096; links = 33554432 }
+run_size = record { worlds = MOST_RUN_WORLDS; links = MOST_LINKS }
 
 -- the run stops so
 abbrev pub RunStops : GroundTask → List ActionId → RunStop → Type 0

@@ -1,6 +1,5 @@
 -- What a call did to the library, and why it has its status and its text.
 use Rattle.std.specs.Prelude.{◌≡◌, ◌≢◌, ◌≤◌, ◌↔◌, ℕ, ⊤, List, IfSome, IfNone, IsSome, Some}
-use Rattle.ep_io.specs.Counts.{FaultSince, RoseBeyond}
 use Rattle.ep_io.specs.Library.{FileMap, LibraryState}
 use Rattle.ep_answer.specs.declared.answer.Answer.TheVariants.{Refused, Unreadable}
 use Rattle.ep_answer.specs.declared.cause.Cause.TheVariants.{NoSuchFile, TooLong}
@@ -9,8 +8,10 @@ use Rattle.ep_answer.specs.declared.cause.Subject.TheVariants.{Formula}
 use Rattle.ep_answer.specs.declared.status.Status.{Status}
 use Rattle.ep_answer.specs.declared.status.Status.TheVariants.{ReadFault, Usage}
 use Rattle.ep_answer.specs.Answer.{answer_text}
-use Rattle.ep_reading.specs.Served.{Outcome, Answers, StopsAt, file_limit}
+use Rattle.ep_reading.specs.Served.{Outcome, Answers, StopsAt}
 use Rattle.ep_answer.specs.Status.{IsWritten}
+use Rattle.ep_base.specs.Counts.{Rose, RoseBeyond}
+use Rattle.ep_lex.specs.declared.limits.TheConstants.{MOST_BYTES}
 
 -- the library holds what it held, and no count fell
 pub record GoesOn (old new : LibraryState) : Type 0 where
@@ -25,7 +26,7 @@ IsOfFile _ = ⊤
 
 -- the library failed on this file, and nothing stood before that
 pub record IsReadFault (work : FileMap → Outcome → Type 0) (names : Subject → List ℕ → Type 0) (old new : LibraryState) (text : List ℕ) (subject : Subject) (name : List ℕ) : Type 0 where
-  pub since : FaultSince old.faults new.faults
+  pub since : Rose old.faults new.faults
   -- the file is one that the work names
   pub named : names subject name
   pub blamed : new.blamed ≡ Some name
@@ -43,4 +44,4 @@ pub record IsAnswerOf (work : FileMap → Outcome → Type 0) (names : Subject �
   -- only a library that tells its files can tell that one is missing
   pub missing : (subject : Subject) → text ≡ answer_text (Refused subject NoSuchFile) → IsSome old.held
   -- one that does not tell them took more bytes than a file may have
-  pub too_long : (subject : Subject) → IsOfFile subject → text ≡ answer_text (Refused subject TooLong) → IfNone old.held (RoseBeyond file_limit old.taken new.taken)
+  pub too_long : (subject : Subject) → IsOfFile subject → text ≡ answer_text (Refused subject TooLong) → IfNone old.held (RoseBeyond MOST_BYTES old.taken new.taken)

@@ -1,16 +1,19 @@
 -- How the work on files and texts goes: the order in which the first cause decides. A step says how the work may end, given
 -- how the work behind it may end with the step's value.
 use Rattle.std.specs.Prelude.{◌≡◌, ◌⊎◌, ℕ, List, ◌≤◌, ◌<◌, length, MatchOption}
-use Rattle.ep_lex.specs.Pieces.{IsStray}
-use Rattle.ep_lex.specs.Tokens.{Lexed, AreTokens, HasTooManyTokens, end_line_of, line_at, spellings}
-use Rattle.ep_tree.specs.Grammar.{Grammar, tasks, Reads, SyntaxAt, DeepAt}
+use Rattle.ep_lex.specs.Tokens.{Lexed, line_at}
+use Rattle.ep_lex.specs.declared.limits.TheConstants.{MOST_BYTES}
+use Rattle.ep_tree.specs.Grammar.{Grammar, tasks}
+use Rattle.ep_reader.specs.Texts.{IsTextOf, IsTextFault}
+use Rattle.ep_reader.specs.declared.text.TextError.{TextError}
+use Rattle.ep_reader.specs.declared.text.TextError.TheVariants as text
 use Rattle.ep_tree.specs.declared.tree.TaskTree.{TaskTree}
 use Rattle.ep_types.specs.Faults.{first_fault}
 use Rattle.ep_types.specs.Places.{Uses}
 use Rattle.ep_types.specs.Tasks.{declarations, task_uses}
-use Rattle.ep_parts.specs.Task.{GroundTask}
-use Rattle.ep_parts.specs.declared.fault.GroundError.{GroundError}
-use Rattle.ep_parts.specs.declared.fault.GroundError.TheVariants as fault
+use Rattle.ep_ground.specs.Task.{GroundTask}
+use Rattle.ep_ground.specs.declared.fault.GroundError.{GroundError}
+use Rattle.ep_ground.specs.declared.fault.GroundError.TheVariants as fault
 use Rattle.ep_ground.specs.Grounding.{fault_of, task_of}
 use Rattle.ep_io.specs.Library.{FileMap, file_of}
 use Rattle.ep_answer.specs.declared.answer.Answer.{Answer}
@@ -33,14 +36,10 @@ answers answer = Answers (answer_status answer) (answer_text answer)
 
 -- ---- files
 
--- the limit on a file
-abbrev pub file_limit : ℕ
-file_limit = 1048576
-
 -- the bytes of a file, if they are not too many
 abbrev pub Sized : Subject → List ℕ → (List ℕ → Outcome → Type 0) → Outcome → Type 0
 Sized subject bytes next outcome =
-    ((file_limit < length bytes) × (outcome ≡ answers (Refused subject cause.TooLong))) ⊎ ((length bytes ≤ file_limit) × next bytes outcome)
+    ((MOST_BYTES < length bytes) × (outcome ≡ answers (Refused subject cause.TooLong))) ⊎ ((length bytes ≤ MOST_BYTES) × next bytes outcome)
 
 -- the bytes of a file, if the library holds it
 abbrev pub Fetched : FileMap → Subject → List ℕ → (List ℕ → Outcome → Type 0) → Outcome → Type 0
@@ -50,29 +49,30 @@ Fetched files subject name next outcome =
 
 -- ---- texts
 
--- the tokens of the bytes, few enough for a list of them, and the line of the end
-pub record AreLexed (bytes : List ℕ) (found : Lexed) : Type 0 where
-  pub tokens : AreTokens bytes found.tokens
-  pub few : length found.tokens ≤ 262144
-  pub end_line : found.end_line ≡ end_line_of bytes
+-- the cause that tells the fault of a text; want of memory is none
+abbrev pub IsTextCause : TextError → Cause → Type 0
+IsTextCause (text.Stray at) c = c ≡ cause.StrayByte at
+IsTextCause text.TooManyTokens c = c ≡ cause.TooManyTokens
+IsTextCause (text.Syntax token line) c = c ≡ cause.Syntax (record { token = token; line = line })
+IsTextCause (text.TooDeep token line) c = c ≡ cause.TooDeep (record { token = token; line = line })
+IsTextCause text.OutOfMemory c = ⊥
 
--- the tokens of a text, if no byte is stray and they are not too many
-abbrev pub Tokenized : Subject → List ℕ → (Lexed → Outcome → Type 0) → Outcome → Type 0
-Tokenized subject bytes next outcome =
-    ((at : ℕ) × IsStray bytes at × (outcome ≡ answers (Refused subject (cause.StrayByte at))))
-    ⊎ ((HasTooManyTokens bytes × (outcome ≡ answers (Refused subject cause.TooManyTokens)))
-    ⊎ ((found : Lexed) × AreLexed bytes found × next found outcome))
+-- the text has a fault, which is told
+pub record TellsTextFault {A : Type 0} (kind : Grammar A) (subject : Subject) (bytes : List ℕ) (outcome : Outcome) : Type 0 where
+  pub error : TextError
+  pub fault : IsTextFault kind bytes error
+  pub cause : Cause
+  pub is_cause : IsTextCause error cause
+  pub told : outcome ≡ answers (Refused subject cause)
+
+-- the tokens of a text with its tree, if some tree of the kind reads them
+abbrev pub Parsed : {A : Type 0} → Grammar A → Subject → List ℕ → (Lexed → A → Outcome → Type 0) → Outcome → Type 0
+Parsed {A} kind subject bytes next outcome =
+    TellsTextFault kind subject bytes outcome ⊎ ((found : Lexed) × (tree : A) × IsTextOf kind bytes found tree × next found tree outcome)
 
 -- a token by its number, with its line
 abbrev pub place_at : Lexed → ℕ → Place
 place_at found token = record { token = token; line = line_at found token }
-
--- the tree of a text, if some tree of the kind reads its tokens
-abbrev pub Parsed : {A : Type 0} → Grammar A → Subject → List ℕ → Lexed → (A → Outcome → Type 0) → Outcome → Type 0
-Parsed {A} kind subject bytes found next outcome =
-    ((n : ℕ) × SyntaxAt kind (spellings bytes found.tokens) n × (outcome ≡ answers (Refused subject (cause.Syntax (place_at found n)))))
-    ⊎ (((t : ℕ) × DeepAt kind (spellings bytes found.tokens) t × (outcome ≡ answers (Refused subject (cause.TooDeep (place_at found t)))))
-    ⊎ ((tree : A) × Reads kind (spellings bytes found.tokens) tree × next tree outcome))
 
 -- what stands at the tokens of a tree, if none of them has a type fault
 abbrev pub Judged : Subject → Lexed → Uses → (Outcome → Type 0) → Outcome → Type 0
@@ -109,7 +109,7 @@ Grounded found tree next outcome =
 -- the ground task of the bytes of a task
 unfoldable pub TaskRead : List ℕ → (GroundTask → Outcome → Type 0) → Outcome → Type 0
 TaskRead bytes next =
-    Tokenized Task bytes (λ found. Parsed tasks Task bytes found (λ tree. Judged Task found (task_uses tree) (Grounded found tree next)))
+    Parsed tasks Task bytes (λ found tree. Judged Task found (task_uses tree) (Grounded found tree next))
 
 -- the ground task of a file
 abbrev pub TaskFile : FileMap → List ℕ → (GroundTask → Outcome → Type 0) → Outcome → Type 0

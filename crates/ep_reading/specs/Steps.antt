@@ -1,22 +1,28 @@
 -- What a step of the work hands on, or how it ends the work.
 use Rattle.std.specs.Prelude.{◌≡◌, ◌≢◌, ◌⊎◌, ◌≤◌, ℕ, List, [], ⊤, length, IfSome, Some, None, Result, MatchResult}
-use Rattle.ep_lex.specs.Tokens.{Lexed, spellings}
+use Rattle.ep_reading.specs.declared.runs.TheConstants.{MOST_RUN_WORLDS}
+use Rattle.ep_lex.specs.declared.limits.TheConstants.{MOST_BYTES, MOST_TOKENS}
+use Rattle.ep_lex.specs.Tokens.{Lexed}
 use Rattle.ep_logic.specs.declared.formula.Node.{Node}
 use Rattle.ep_logic.specs.declared.ids.ActionId.{ActionId}
 use Rattle.ep_theory.specs.Fits.{Fits}
 use Rattle.ep_theory.specs.Kripke.{Kripke}
-use Rattle.ep_tree.specs.Grammar.{tasks, formulas, Reads}
+use Rattle.ep_tree.specs.Grammar.{tasks, formulas}
+use Rattle.ep_reader.specs.Texts.{IsTextOf}
+use Rattle.ep_reader.specs.declared.text.TextError.{TextError}
 use Rattle.ep_tree.specs.declared.tree.FormulaTree.{FormulaTree}
 use Rattle.ep_tree.specs.declared.tree.TaskTree.{TaskTree}
 use Rattle.ep_types.specs.Tasks.{HasNoFault, declarations}
-use Rattle.ep_universe.specs.FormulaFaults.{formula_refusal}
-use Rattle.ep_parts.specs.Task.{GroundTask}
+use Rattle.ep_ground.specs.FormulaFaults.{formula_refusal}
+use Rattle.ep_ground.specs.Task.{GroundTask}
 use Rattle.ep_ground.specs.Grounding.{fault_of, task_of}
 use Rattle.ep_plan.specs.Runs.{RunUnder}
 use Rattle.ep_plan.specs.declared.runs.Outcome.TheVariants.{After}
 use Rattle.ep_plan_text.specs.PlanFiles.{IsPlan}
 use Rattle.ep_io.specs.Library.{LibraryState, FileMap, file_of}
 use Rattle.ep_answer.specs.declared.answer.Answer.{Answer}
+use Rattle.ep_answer.specs.declared.answer.Answer.TheVariants.{Refused}
+use Rattle.ep_answer.specs.declared.cause.Cause.{Cause}
 use Rattle.ep_answer.specs.declared.answer.Stop.{Stop}
 use Rattle.ep_answer.specs.declared.answer.Stop.TheVariants.{Told, OutOfMemory}
 use Rattle.ep_answer.specs.declared.cause.Subject.{Subject}
@@ -24,7 +30,7 @@ use Rattle.ep_answer.specs.declared.cause.Subject.TheVariants.{Task}
 use Rattle.ep_answer.specs.Answer.{answer_status, answer_text}
 use Rattle.ep_reading.specs.FormulaWord.{ground_form}
 use Rattle.ep_reading.specs.PlanFile.{NamesPlan, PlanFile, no_plan, run_size, AreItsActions}
-use Rattle.ep_reading.specs.Served.{Outcome, AreLexed, Fetched, TaskFile, answers, file_limit}
+use Rattle.ep_reading.specs.Served.{Outcome, Fetched, IsTextCause, TaskFile, answers}
 use Rattle.ep_reading.specs.Run.{IsAnswerOf}
 
 -- the work may end so, or memory is wanting
@@ -35,6 +41,10 @@ StopsBy work OutOfMemory = ⊤
 -- the work may end with what is told, at the end or before it
 abbrev pub Tells : (Outcome → Type 0) → Result Answer Stop → Type 0
 Tells work result = MatchResult result (λ answer. work (answers answer)) (StopsBy work)
+
+-- the fault of a text is told, or memory is wanting
+abbrev pub StopsAtText : TextError → Subject → Stop → Type 0
+StopsAtText error subject = StopsBy (λ outcome. (c : Cause) × IsTextCause error c × (outcome ≡ answers (Refused subject c)))
 
 -- nothing stands behind a step
 abbrev pub nothing_behind : {A : Type 0} → A → Outcome → Type 0
@@ -47,7 +57,7 @@ OnlyFile subject name other_subject other_name = (other_subject ≡ subject) × 
 
 -- the bytes are those of the file
 abbrev pub IsFetched : LibraryState → List ℕ → List ℕ → Type 0
-IsFetched library name bytes = (length bytes ≤ file_limit) × IfSome library.held (λ files. file_of files name ≡ Some bytes)
+IsFetched library name bytes = (length bytes ≤ MOST_BYTES) × IfSome library.held (λ files. file_of files name ≡ Some bytes)
 
 -- the work on a library ends so, or memory is wanting
 abbrev pub StopsAnswer : (FileMap → Outcome → Type 0) → (Subject → List ℕ → Type 0) → Type 0 → LibraryState → LibraryState → Stop → Type 0
@@ -69,10 +79,9 @@ StopsAtFetch old new subject name = StopsWork (λ files. Fetched files subject n
 
 -- ---- tasks
 
--- some tokens are those of the bytes, and the tree reads them and has no type fault
+-- the bytes are a task of these tokens and this tree, which has no type fault
 pub record IsTreeOf (bytes : List ℕ) (found : Lexed) (tree : TaskTree) : Type 0 where
-  pub lexed : AreLexed bytes found
-  pub reads : Reads tasks (spellings bytes found.tokens) tree
+  pub text : IsTextOf tasks bytes found tree
   pub typed : HasNoFault tree
 
 -- the ground task of a tree without a ground fault
@@ -106,7 +115,7 @@ OnlyPlan subject word other_subject name = (other_subject ≡ subject) × NamesP
 pub record IsPlanOf (g : GroundTask) (bytes : List ℕ) (plan : List ActionId) : Type 0 where
   pub is_plan : IsPlan g bytes plan
   pub its_actions : AreItsActions g plan
-  pub few : length plan ≤ 262144
+  pub few : length plan ≤ MOST_TOKENS
 
 -- the plan of a file for a task
 pub record IsPlanFile (library : LibraryState) (name : List ℕ) (g : GroundTask) (plan : List ActionId) : Type 0 where
@@ -118,7 +127,7 @@ pub record IsPlanFile (library : LibraryState) (name : List ℕ) (g : GroundTask
 pub record IsPlanWord (library : LibraryState) (word : List ℕ) (g : GroundTask) (plan : List ActionId) : Type 0 where
   pub is_plan : ((word ≡ no_plan) × (plan ≡ [])) ⊎ ((word ≢ no_plan) × IsPlanFile library word g plan)
   pub its_actions : AreItsActions g plan
-  pub few : length plan ≤ 262144
+  pub few : length plan ≤ MOST_TOKENS
 
 -- the work ends before there is a plan
 abbrev pub StopsAtPlan : LibraryState → LibraryState → Subject → List ℕ → GroundTask → Stop → Type 0
@@ -127,7 +136,7 @@ StopsAtPlan old new subject word g = StopsWork (λ files. PlanFile files subject
 -- the state that a plan of the task leaves, within the size of a run
 pub record IsLeft (g : GroundTask) (plan : List ActionId) (S : Kripke) : Type 0 where
   pub run : RunUnder g.problem plan run_size (After S)
-  pub worlds : S.worlds ≤ 4096
+  pub worlds : S.worlds ≤ MOST_RUN_WORLDS
   pub agents : S.agents ≡ g.problem.initial.agents
   pub atoms : S.atoms ≡ g.problem.initial.atoms
   pub named_agents : S.agents ≡ length g.agents
@@ -143,9 +152,8 @@ pub record IsFormOf (g : GroundTask) (tree : FormulaTree) (f : Node) : Type 0 wh
 
 -- the formula of a text
 pub record IsFormulaOf (g : GroundTask) (text : List ℕ) (f : Node) : Type 0 where
-  pub few : length text ≤ file_limit
+  pub few : length text ≤ MOST_BYTES
   pub found : Lexed
   pub tree : FormulaTree
-  pub lexed : AreLexed text found
-  pub reads : Reads formulas (spellings text found.tokens) tree
+  pub is_text : IsTextOf formulas text found tree
   pub form : IsFormOf g tree f

@@ -8,9 +8,8 @@ use crate::read::read_task;
 use ep_answer::{Answer, Cause, Stop, Subject};
 use ep_ground::Task;
 use ep_io::{FetchError, Library};
+use ep_lex::MOST_BYTES;
 use std::alloc::Global;
-
-const FILE_LIMIT: u32 = 1_048_576;
 
 /// The bytes of a file.
 pub fn fetch_file<L: Library>(
@@ -26,7 +25,7 @@ pub fn fetch_file<L: Library>(
     ensures needs { IfErr result (λ stop. StopNeeds stop → ⊥) }
 {
     let mut bytes = Vec::new(alloc);
-    match files.fetch(name, FILE_LIMIT, &mut bytes) {
+    match files.fetch(name, MOST_BYTES, &mut bytes) {
         Ok(()) => Ok(bytes),
         Err(FetchError::Missing) => Err(Stop::Told(Answer::Refused(subject, Cause::NoSuchFile))),
         Err(FetchError::TooLong) => Err(Stop::Told(Answer::Refused(subject, Cause::TooLong))),

@@ -10,5 +10,5 @@ mod runs;
 pub use files::{fetch_file, task_file};
 pub use formula::formula_word;
 pub use plans::plan_file;
-pub use read::{place, read_task, tokens};
+pub use read::read_task;
 pub use runs::{ran, verdict};

@@ -1,18 +1,17 @@
 // The plan of a word.
 ghost use Rattle.std.specs.Prelude.{◌≡◌, ◌≤◌, length, MatchOption, MatchResult};
+ghost use Rattle.ep_lex.specs.declared.limits.TheConstants.{MOST_BYTES};
 ghost use Rattle.ep_plan_text.specs.declared.read.PlanError.TheVariants as fault;
 ghost use Rattle.ep_reading.specs.PlanFile.{IsPlanCause, PlanRead};
 ghost use Rattle.ep_reading.specs.Run.{GoesOn};
-ghost use Rattle.ep_reading.specs.Served.{file_limit};
 ghost use Rattle.ep_reading.specs.Steps.{IsPlanOf, IsPlanWord, StopsAtPlan, StopsBy, nothing_behind};
 
 use crate::files::fetch_file;
 use ep_answer::{Answer, Cause, Place, Stop, Subject};
 use ep_base::List;
-use ep_ground::Task;
+use ep_ground::{Plan, Task};
 use ep_io::Library;
 use ep_plan_text::PlanError;
-use ep_problem::Plan;
 use std::alloc::Global;
 
 // The cause that tells the fault of a plan file; there is none for want of memory.
@@ -31,7 +30,7 @@ fn cause_of(error: PlanError) -> Option<Cause>
 }
 
 fn read_plan(alloc: Global, subject: Subject, task: &Task, bytes: &[u8]) -> Result<Plan, Stop>
-    requires { length bytes.now ≤ file_limit }
+    requires { length bytes.now ≤ MOST_BYTES }
     ensures { MatchResult result (IsPlanOf task.now bytes.now)
         (StopsBy (PlanRead subject task.now bytes.now nothing_behind)) }
 {

@@ -1,18 +1,20 @@
 // The reading of texts: tokens, trees, types, and ground tasks.
 ghost use Rattle.std.specs.Prelude.{◌≡◌, ◌≤◌, length, MatchOption, MatchResult};
-ghost use Rattle.ep_lex.specs.Tokens.{AreTokens, spellings};
-ghost use Rattle.ep_tree.specs.Grammar.{tasks, Reads};
+ghost use Rattle.ep_lex.specs.declared.limits.TheConstants.{MOST_BYTES};
+ghost use Rattle.ep_reader.specs.Texts.{IsTextOf};
+ghost use Rattle.ep_reader.specs.declared.text.TextError.TheVariants as text_fault;
+ghost use Rattle.ep_tree.specs.Grammar.{tasks, IsRead};
 ghost use Rattle.ep_types.specs.Tasks.{HasNoFault, task_uses};
-ghost use Rattle.ep_tree.specs.Grammar.{IsRead};
-ghost use Rattle.ep_parts.specs.declared.fault.GroundError.TheVariants as fault;
+ghost use Rattle.ep_ground.specs.declared.fault.GroundError.TheVariants as fault;
 ghost use Rattle.ep_answer.specs.declared.cause.Subject.TheVariants.{Task as OfTask};
-ghost use Rattle.ep_reading.specs.Served.{AreLexed, IsCauseOf, TellsCause, Tokenized, Parsed, Judged, Grounded, TaskRead, file_limit, place_at};
-ghost use Rattle.ep_reading.specs.Steps.{IsGroundOf, IsTaskOf, StopsBy, nothing_behind};
+ghost use Rattle.ep_reading.specs.Served.{IsCauseOf, IsTextCause, TellsCause, Parsed, Judged, Grounded, TaskRead, place_at};
+ghost use Rattle.ep_reading.specs.Steps.{IsGroundOf, IsTaskOf, StopsAtText, StopsBy, nothing_behind};
 
 use ep_answer::{Answer, Cause, Place, Stop, Subject};
 use ep_ground::{GroundError, Task, ground};
-use ep_lex::{LexError, TokenList};
-use ep_syntax::SyntaxError;
+use ep_lex::TokenList;
+use ep_reader::{ParsedText, TextError};
+use ep_syntax::read_task_text;
 use ep_tree::TaskTree;
 use ep_types::{TypeError, Typed};
 use std::alloc::Global;
@@ -25,41 +27,37 @@ pub fn place(tokens: &TokenList, token: u32) -> Place
     Place { token, line }
 }
 
-/// The tokens of a text.
-pub fn tokens(alloc: Global, subject: Subject, bytes: &[u8]) -> Result<TokenList, Stop>
-    requires { length bytes.now ≤ file_limit }
-    ensures { MatchResult result (AreLexed bytes.now) (StopsBy (Tokenized subject bytes.now nothing_behind)) }
+// The cause that tells the fault of a text; there is none for want of memory.
+fn text_cause(error: TextError) -> Option<Cause>
+    ensures { MatchOption result (error ≡ text_fault.OutOfMemory) (IsTextCause error) }
 {
-    match ep_lex::tokens(alloc, bytes) {
-        Ok(found) => Ok(found),
-        Err(LexError::Stray { at }) => Err(Stop::Told(Answer::Refused(
-            subject,
-            Cause::StrayByte { at },
-        ))),
-        Err(LexError::TooManyTokens) => Err(Stop::Told(Answer::Refused(
-            subject,
-            Cause::TooManyTokens,
-        ))),
-        Err(LexError::OutOfMemory) => Err(Stop::OutOfMemory),
+    match error {
+        TextError::Stray { at } => Some(Cause::StrayByte { at }),
+        TextError::TooManyTokens => Some(Cause::TooManyTokens),
+        TextError::Syntax { token, line } => Some(Cause::Syntax(Place { token, line })),
+        TextError::TooDeep { token, line } => Some(Cause::TooDeep(Place { token, line })),
+        TextError::OutOfMemory => None,
     }
 }
 
-fn task_tree(alloc: Global, bytes: &[u8], found: &TokenList) -> Result<TaskTree, Stop>
-    requires { AreTokens bytes.now found.now.tokens }
-    ensures { MatchResult result (Reads tasks (spellings bytes.now found.now.tokens))
-        (StopsBy (Parsed tasks OfTask bytes.now found.now nothing_behind)) }
+/// How the work ends at a text that is not read.
+pub fn text_stop(subject: Subject, error: TextError) -> Stop
+    ensures { StopsAtText error subject result }
 {
-    match ep_syntax::read_task(alloc, bytes, found) {
-        Ok(tree) => Ok(tree),
-        Err(SyntaxError::Syntax { token }) => {
-            let cause = Cause::Syntax(place(found, token));
-            Err(Stop::Told(Answer::Refused(Subject::Task, cause)))
-        }
-        Err(SyntaxError::TooDeep { token }) => {
-            let cause = Cause::TooDeep(place(found, token));
-            Err(Stop::Told(Answer::Refused(Subject::Task, cause)))
-        }
-        Err(SyntaxError::OutOfMemory) => Err(Stop::OutOfMemory),
+    match text_cause(error) {
+        Some(cause) => Stop::Told(Answer::Refused(subject, cause)),
+        None => Stop::OutOfMemory,
+    }
+}
+
+fn task_text(alloc: Global, bytes: &[u8]) -> Result<ParsedText<TaskTree>, Stop>
+    requires { length bytes.now ≤ MOST_BYTES }
+    ensures { MatchResult result (λ text. IsTextOf tasks bytes.now text.tokens text.tree)
+        (StopsBy (Parsed tasks OfTask bytes.now (λ _. nothing_behind))) }
+{
+    match read_task_text(alloc, bytes) {
+        Ok(text) => Ok(text),
+        Err(error) => Err(text_stop(Subject::Task, error)),
     }
 }
 
@@ -119,11 +117,11 @@ fn ground_task(alloc: Global, found: &TokenList, typed: Typed) -> Result<Task, S
 
 /// The ground task of the bytes, by its tokens, its tree and its types.
 pub fn read_task(alloc: Global, bytes: &[u8]) -> Result<Task, Stop>
-    requires { length bytes.now ≤ file_limit }
+    requires { length bytes.now ≤ MOST_BYTES }
     ensures { MatchResult result (IsTaskOf bytes.now) (StopsBy (TaskRead bytes.now nothing_behind)) }
 {
-    let found = tokens(alloc, Subject::Task, bytes)?;
-    let tree = task_tree(alloc, bytes, &found)?;
-    let typed = typed_task(alloc, &found, tree)?;
-    ground_task(alloc, &found, typed)
+    let text = task_text(alloc, bytes)?;
+    let ParsedText { tokens, tree } = text;
+    let typed = typed_task(alloc, &tokens, tree)?;
+    ground_task(alloc, &tokens, typed)
 }

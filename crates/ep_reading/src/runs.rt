@@ -1,5 +1,6 @@
 // The run of a plan, and the verdict on it.
 ghost use Rattle.std.specs.Prelude.{◌≡◌, ◌<◌, ◌≤◌, length, IfOk, MatchResult};
+ghost use Rattle.ep_lex.specs.declared.limits.TheConstants.{MOST_TOKENS};
 ghost use Rattle.ep_plan.specs.Runs.{AreOf, RunUnder};
 ghost use Rattle.ep_plan.specs.Verdicts.{IsVerdict};
 ghost use Rattle.ep_reading.specs.PlanFile.{AreItsActions, Ran, run_size};
@@ -7,11 +8,10 @@ ghost use Rattle.ep_reading.specs.Steps.{IsLeft, StopsBy, nothing_behind};
 
 use ep_answer::{Answer, RunStop, Stop, Whose};
 use ep_base::OutOfMemory;
-use ep_ground::Task;
+use ep_ground::{Plan, Problem, Task};
 use ep_kripke::State;
 use ep_logic::Steps;
-use ep_plan::{Outcome, Verdict, run_plan, validate};
-use ep_problem::{Plan, Problem};
+use ep_plan::{MOST_LINKS, Outcome, Verdict, run_plan, validate};
 use ep_update::Size;
 use std::alloc::Global;
 use std::marker::Brand;
@@ -19,9 +19,12 @@ use std::sync::ledger::{Blank, Ledger};
 
 // ---- runs
 
+/// The most worlds of the states of a run whose end a command goes on with.
+pub const MOST_RUN_WORLDS: u32 = 4_096;
+
 const RUN_SIZE: Size = Size {
-    worlds: 4_096,
-    links: 33_554_432,
+    worlds: MOST_RUN_WORLDS,
+    links: MOST_LINKS,
 };
 
 // The run, on a counter of its own.
@@ -31,7 +34,7 @@ fn run_on<L: Ledger>(
     plan: &Plan,
     blank: Blank,
 ) -> Result<Outcome, OutOfMemory>
-    requires length { length plan.now ≤ 262144 }
+    requires length { length plan.now ≤ MOST_TOKENS }
     requires actions { AreOf problem.now plan.now }
     requires name { blank.name ≡ L.name }
     requires parts { blank.parts ≡ L.parts }
@@ -43,7 +46,7 @@ fn run_on<L: Ledger>(
 }
 
 fn run(alloc: Global, problem: &Problem, plan: &Plan) -> Result<Outcome, OutOfMemory>
-    requires length { length plan.now ≤ 262144 }
+    requires length { length plan.now ≤ MOST_TOKENS }
     requires actions { AreOf problem.now plan.now }
     ensures { IfOk result (RunUnder problem.now plan.now run_size) }
 {
@@ -58,11 +61,11 @@ fn stopped(whose: Whose, stop: RunStop) -> Stop
 
 /// The state that the plan leaves.
 pub fn ran(alloc: Global, task: &Task, whose: Whose, plan: &Plan) -> Result<State, Stop>
-    requires length { length plan.now ≤ 262144 }
+    requires length { length plan.now ≤ MOST_TOKENS }
     requires actions { AreItsActions task.now plan.now }
     ensures { MatchResult result (IsLeft task.now plan.now) (StopsBy (Ran whose task.now plan.now nothing_behind)) }
 {
-    let _actions = task.actions();
+    task.known();
     match run(alloc, task.problem(), plan)? {
         Outcome::After(state) => Ok(state),
         Outcome::Stuck { step } => Err(stopped(whose, RunStop::Stuck { step })),
@@ -84,7 +87,7 @@ fn verdict_on<L: Ledger>(
     plan: &Plan,
     blank: Blank,
 ) -> Result<Verdict, OutOfMemory>
-    requires length { length plan.now ≤ 262144 }
+    requires length { length plan.now ≤ MOST_TOKENS }
     requires actions { AreOf problem.now plan.now }
     requires name { blank.name ≡ L.name }
     requires parts { blank.parts ≡ L.parts }
@@ -97,10 +100,10 @@ fn verdict_on<L: Ledger>(
 
 /// The verdict on a plan of a task.
 pub fn verdict(alloc: Global, task: &Task, plan: &Plan) -> Result<Verdict, OutOfMemory>
-    requires length { length plan.now ≤ 262144 }
+    requires length { length plan.now ≤ MOST_TOKENS }
     requires actions { AreItsActions task.now plan.now }
     ensures { IfOk result (IsVerdict task.now.problem plan.now) }
 {
-    let _actions = task.actions();
+    task.known();
     verdict_on::<Brand>(alloc, task.problem(), plan, Blank::new(1))
 }

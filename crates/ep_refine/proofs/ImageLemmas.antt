@@ -8,15 +8,11 @@ use Rattle.std.proofs.lemmas.List.Sums.{sum_by-cons}
 use Rattle.ep_theory.specs.Rising.{IsIn, IsRising}
 use Rattle.ep_theory.specs.Kripke.{Kripke, IsState, pair_cmp, links_of, successors, truth_of}
 use Rattle.ep_theory.specs.Image.{IsImage}
-use Rattle.ep_theory.proofs.Exists.{not_empty}
-use Rattle.ep_theory.proofs.Filters.{IsIn-filter, from_filter, All-map, All-at}
-use Rattle.ep_theory.proofs.Lists.{at_All, All-from_each, IsIn-map, from_map, IsIn-rising, from_rising, IsRising-rising, from_successors, IsIn-successors, equal_from_test}
-use Rattle.ep_theory.proofs.Unique.{numbers, links_within}
-use Rattle.ep_kripke.specs.Rows.{all_pairs}
+use Rattle.ep_theory.proofs.CallerLemmas.{not_empty, IsIn-filter, from_filter, All-map, All-at, at_All, All-from_each, IsIn-map, from_map, IsIn-rising, from_rising, IsRising-rising, from_successors, IsIn-successors, equal_from_test, numbers, links_within, get_or-pairs, sum_by-pairs, from_row_pairs, to_row_pairs, row_pairs_rise}
+use Rattle.ep_theory.specs.Relations.{all_pairs}
 use Rattle.ep_kripke.specs.States.{IsBounded, state_of, HaveRows}
-use Rattle.ep_kripke.proofs.RowsLemmas.{get_or-pairs, sum_by-pairs}
 use Rattle.ep_refine.specs.Choices.{kept_numbers, IsChoice}
-use Rattle.ep_refine.proofs.RowLemmas.{from_row_pairs, to_row_pairs, row_pairs_rise, rising_long}
+use Rattle.ep_refine.proofs.RowLemmas.{rising_long}
 
 pub from_kept : (keep : ℕ → Bool) (number : ℕ → ℕ) (c : ℕ) (worlds : List ℕ) → IsIn c (kept_numbers keep number worlds) → (w : ℕ) × IsIn w worlds × IsTrue (keep w) × (number w ≡ c)
 from_kept keep number c worlds i =

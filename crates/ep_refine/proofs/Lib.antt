@@ -6,3 +6,4 @@ pub mod RoundLemmas
 pub mod RowLemmas
 pub mod ImageLemmas
 pub mod KeptLemmas
+pub mod CallerLemmas

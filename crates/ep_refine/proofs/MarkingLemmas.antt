@@ -2,8 +2,9 @@
 use Rattle.std.proofs.Common.{◌≡◌, ◌≢◌, ℕ, zero, suc, ◌<◌, ◌+◌, ◌⊎◌, inl, inr, ⊎_elim, Bool, true, false, List, [], ◌∷◌, ◌++◌, length, get_or, set, take, refl, sym, subst, ◌∙◌, arith, IsTrue, length-append}
 use Rattle.std.proofs.lemmas.List.{get_or-set_other, get_or-set_same, length-set, take_more}
 use Rattle.ep_theory.specs.Rising.{IsIn}
-use Rattle.ep_theory.proofs.Bools.{in_left, in_right, in_parts}
-use Rattle.ep_refine.specs.Marking.{is_marked, unmarked, Marks}
+use Rattle.ep_theory.proofs.CallerLemmas.{in_left, in_right, in_parts}
+use Rattle.ep_refine.specs.Marking.{unmarked, Marks}
+use Rattle.ep_logic.specs.Rows.{value_at}
 
 pub marks_none : (row : List Bool) (open' : List ℕ) → Marks (λ v. ⊥) row row open' open'
 marks_none row open' = record {
@@ -22,7 +23,7 @@ marks_both P Q a b c o p q f g = record {
   keeps = λ w h. g.keeps w (f.keeps w h);
   adds = λ w h. ⊎_elim (λ (i : P w). g.keeps w (f.adds w i)) (λ (j : Q w). g.adds w j) h;
   marked = λ w h. ⊎_elim
-      (λ (i : IsTrue (is_marked b w)). ⊎_elim (λ (j : IsTrue (is_marked a w)). inl j) (λ (j : P w × IsIn w p). inr (inl j.0, g.keeps_open w j.1)) (f.marked w i))
+      (λ (i : IsTrue (value_at b w)). ⊎_elim (λ (j : IsTrue (value_at a w)). inl j) (λ (j : P w × IsIn w p). inr (inl j.0, g.keeps_open w j.1)) (f.marked w i))
       (λ (j : Q w × IsIn w q). inr (inr j.0, j.1)) (g.marked w h);
   keeps_open = λ w i. g.keeps_open w (f.keeps_open w i);
   opened = λ w i. ⊎_elim
@@ -36,25 +37,25 @@ marks_same P Q a b o p to from f = record {
   long = f.long;
   keeps = f.keeps;
   adds = λ w h. f.adds w (from w h);
-  marked = λ w h. ⊎_elim (λ (j : IsTrue (is_marked a w)). inl j) (λ (j : P w × IsIn w p). inr (to w j.0, j.1)) (f.marked w h);
+  marked = λ w h. ⊎_elim (λ (j : IsTrue (value_at a w)). inl j) (λ (j : P w × IsIn w p). inr (to w j.0, j.1)) (f.marked w h);
   keeps_open = f.keeps_open;
   opened = λ w i. ⊎_elim (λ (j : IsIn w o). inl j) (λ (j : P w). inr (to w j)) (f.opened w i);
   count = f.count;
 }
 
 -- a world that is marked already
-pub marks_old : (row : List Bool) (open' : List ℕ) (w : ℕ) → is_marked row w ≡ true → Marks (λ v. v ≡ w) row row open' open'
+pub marks_old : (row : List Bool) (open' : List ℕ) (w : ℕ) → value_at row w ≡ true → Marks (λ v. v ≡ w) row row open' open'
 marks_old row open' w h = record {
   long = refl;
   keeps = λ v i. i;
-  adds = λ v q. subst (λ x. IsTrue (is_marked row x)) (sym q) h;
+  adds = λ v q. subst (λ x. IsTrue (value_at row x)) (sym q) h;
   marked = λ v i. inl i;
   keeps_open = λ v i. i;
   opened = λ v i. inl i;
   count = refl;
 }
 
-unmarked-set : (row : List Bool) (w : ℕ) → w < length row → is_marked row w ≡ false → unmarked (set row w true) + 1 ≡ unmarked row
+unmarked-set : (row : List Bool) (w : ℕ) → w < length row → value_at row w ≡ false → unmarked (set row w true) + 1 ≡ unmarked row
 unmarked-set [] w b h = absurd (omega arith)
 unmarked-set (true ∷ row) zero b h = cc
 unmarked-set (false ∷ row) zero b h = omega arith
@@ -62,11 +63,11 @@ unmarked-set (true ∷ row) (suc w) b h = unmarked-set row w (omega arith) h
 unmarked-set (false ∷ row) (suc w) b h = let q = unmarked-set row w (omega arith) h in omega arith
 
 -- a world that is not marked yet
-pub marks_new : (row : List Bool) (open' : List ℕ) (w : ℕ) → w < length row → is_marked row w ≡ false → Marks (λ v. v ≡ w) row (set row w true) open' (open' ++ w ∷ [])
+pub marks_new : (row : List Bool) (open' : List ℕ) (w : ℕ) → w < length row → value_at row w ≡ false → Marks (λ v. v ≡ w) row (set row w true) open' (open' ++ w ∷ [])
 marks_new row open' w b h = record {
   long = length-set row w true;
   keeps = keeps;
-  adds = λ v q. subst (λ x. IsTrue (is_marked (set row w true) x)) (sym q) here;
+  adds = λ v q. subst (λ x. IsTrue (value_at (set row w true) x)) (sym q) here;
   marked = λ v i. ⊎_elim
       (λ (q : v ≡ w). inr (q, in_right v open' (w ∷ []) (inl q)))
       (λ (q : v ≢ w). inl (subst IsTrue (others v q) i))
@@ -79,15 +80,15 @@ marks_new row open' w b h = record {
     same_or_not : (v w : ℕ) → (v ≡ w) ⊎ (v ≢ w)
     same_or_not v w = grind arith
 
-    here : is_marked (set row w true) w ≡ true
+    here : value_at (set row w true) w ≡ true
     here = get_or-set_same row w true false b
 
-    others : (v : ℕ) → v ≢ w → is_marked (set row w true) v ≡ is_marked row v
+    others : (v : ℕ) → v ≢ w → value_at (set row w true) v ≡ value_at row v
     others v q = get_or-set_other row w v true false q
 
-    keeps : (v : ℕ) → IsTrue (is_marked row v) → IsTrue (is_marked (set row w true) v)
+    keeps : (v : ℕ) → IsTrue (value_at row v) → IsTrue (value_at (set row w true) v)
     keeps v i = ⊎_elim
-        (λ (q : v ≡ w). subst (λ x. IsTrue (is_marked (set row w true) x)) (sym q) here)
+        (λ (q : v ≡ w). subst (λ x. IsTrue (value_at (set row w true) x)) (sym q) here)
         (λ (q : v ≢ w). subst IsTrue (sym (others v q)) i)
         (same_or_not v w)
 

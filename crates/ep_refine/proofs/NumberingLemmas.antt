@@ -6,9 +6,7 @@ use Rattle.std.proofs.Math.ListN.{get_or-append}
 use Rattle.std.proofs.Math.Seq.{get_or-append_seam}
 use Rattle.std.proofs.lemmas.Cmp.{tied_itself, alike_right}
 use Rattle.ep_theory.specs.Rising.{IsIn}
-use Rattle.ep_theory.proofs.Bools.{in_left, in_right, in_parts}
-use Rattle.ep_theory.proofs.Counting.{last_or_before}
-use Rattle.ep_theory.proofs.Filters.{IsIn-at}
+use Rattle.ep_theory.proofs.CallerLemmas.{in_left, in_right, in_parts, last_or_before, IsIn-at}
 use Rattle.ep_refine.specs.Numbering.{AreNumbers, IsAbove, IsLevel}
 
 -- the first i items of a list are numbered, the last of them with the greatest number in use

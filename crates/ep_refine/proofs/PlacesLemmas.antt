@@ -10,10 +10,7 @@ use Rattle.std.proofs.lemmas.Map.Keys.{IsDistinct-IsPermutation}
 use Rattle.std.proofs.lemmas.Map.Made.{AllPairs-from_IsDistinct, IsDistinct-from_AllPairs}
 use Rattle.std.proofs.lemmas.Cmp.{nat_eq_equiv}
 use Rattle.ep_theory.specs.Rising.{IsIn}
-use Rattle.ep_theory.proofs.Bridges.{Contains-from_in}
-use Rattle.ep_theory.proofs.Counting.{last_or_before}
-use Rattle.ep_theory.proofs.Filters.{IsIn-at}
-use Rattle.ep_theory.proofs.Unique.{same_places}
+use Rattle.ep_theory.proofs.CallerLemmas.{Contains-from_in, last_or_before, IsIn-at, same_places}
 use Rattle.ep_refine.specs.Numbering.{AreNumbers, OrdersAs}
 
 pub range_more : (a n : ℕ) → range_with_len a (suc n) ≡ range_with_len a n ++ (a + n) ∷ []

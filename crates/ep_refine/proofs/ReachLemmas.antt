@@ -5,12 +5,9 @@ use Rattle.std.proofs.lemmas.Bool.{false≢true}
 use Rattle.ep_theory.specs.Rising.{IsIn}
 use Rattle.ep_theory.specs.Kripke.{Kripke, IsState, links_of, successors}
 use Rattle.ep_theory.specs.Canonical.{Reached, start, step}
-use Rattle.ep_theory.proofs.Bools.{in_left, in_right, in_parts}
-use Rattle.ep_theory.proofs.Counting.{last_or_before}
-use Rattle.ep_theory.proofs.Filters.{IsIn-at}
-use Rattle.ep_theory.proofs.Lists.{at_All, from_successors, IsIn-successors}
-use Rattle.ep_theory.proofs.Unique.{links_within}
-use Rattle.ep_refine.specs.Marking.{is_marked, Marks, IsTarget}
+use Rattle.ep_theory.proofs.CallerLemmas.{in_left, in_right, in_parts, last_or_before, IsIn-at, at_All, from_successors, IsIn-successors, links_within}
+use Rattle.ep_refine.specs.Marking.{Marks, IsTarget}
+use Rattle.ep_logic.specs.Rows.{value_at}
 use Rattle.ep_refine.proofs.MarkingLemmas.{marks_none, marks_both, marks_same}
 
 -- one of the first i agents links w to the world
@@ -59,12 +56,12 @@ designated_within S s k d b = at_All (λ v. v < S.worlds) (get_or S.designated k
 -- what the search keeps: marked worlds are reached, and each of them is open or has all its links' ends marked
 pub record Searches (S : Kripke) (row : List Bool) (todo : List ℕ) : Type 0 where
   pub long : length row ≡ S.worlds
-  pub reached : (w : ℕ) → IsTrue (is_marked row w) → Reached S w
-  pub designated : (w : ℕ) → IsIn w S.designated → IsTrue (is_marked row w)
-  pub todo_marked : (w : ℕ) → IsIn w todo → IsTrue (is_marked row w)
-  pub closed : (w v : ℕ) → IsTrue (is_marked row w) → IsTarget S w v → IsIn w todo ⊎ IsTrue (is_marked row v)
+  pub reached : (w : ℕ) → IsTrue (value_at row w) → Reached S w
+  pub designated : (w : ℕ) → IsIn w S.designated → IsTrue (value_at row w)
+  pub todo_marked : (w : ℕ) → IsIn w todo → IsTrue (value_at row w)
+  pub closed : (w v : ℕ) → IsTrue (value_at row w) → IsTarget S w v → IsIn w todo ⊎ IsTrue (value_at row v)
 
-no_mark : (n w : ℕ) → is_marked (replicate n false) w ≡ false
+no_mark : (n w : ℕ) → value_at (replicate n false) w ≡ false
 no_mark zero w = refl
 no_mark (suc n) zero = refl
 no_mark (suc n) (suc w) = no_mark n w
@@ -73,12 +70,12 @@ pub searches_start : (S : Kripke) (row : List Bool) (todo : List ℕ) → Marks 
 searches_start S row todo f = record {
   long = f.long ∙ length-replicate S.worlds false;
   reached = λ w h. ⊎_elim
-      (λ (k : IsTrue (is_marked (replicate S.worlds false) w)). absurd (false≢true (sym (no_mark S.worlds w) ∙ k)))
+      (λ (k : IsTrue (value_at (replicate S.worlds false) w)). absurd (false≢true (sym (no_mark S.worlds w) ∙ k)))
       (λ (k : IsIn w S.designated × IsIn w todo). start k.0) (f.marked w h);
   designated = f.adds;
   todo_marked = λ w i. ⊎_elim (λ (k : IsIn w []). absurd k) (f.adds w) (f.opened w i);
   closed = λ w v h t. ⊎_elim
-      (λ (k : IsTrue (is_marked (replicate S.worlds false) w)). absurd (false≢true (sym (no_mark S.worlds w) ∙ k)))
+      (λ (k : IsTrue (value_at (replicate S.worlds false) w)). absurd (false≢true (sym (no_mark S.worlds w) ∙ k)))
       (λ (k : IsIn w S.designated × IsIn w todo). inl k.1) (f.marked w h);
 }
 
@@ -90,17 +87,17 @@ pub searches_step : (S : Kripke) (row after : List Bool) (todo left more : List 
 searches_step S row after todo left more w e s f = record {
   long = f.long ∙ s.long;
   reached = λ v h. ⊎_elim
-      (λ (k : IsTrue (is_marked row v)). s.reached v k)
+      (λ (k : IsTrue (value_at row v)). s.reached v k)
       (λ (k : IsTarget S w v × IsIn v more). step k.0.0 w (s.reached w (s.todo_marked w last)) k.0.1) (f.marked v h);
   designated = λ v i. f.keeps v (s.designated v i);
   todo_marked = λ v i. ⊎_elim (λ (k : IsIn v left). f.keeps v (s.todo_marked v (before v k))) (f.adds v) (f.opened v i);
   closed = λ u v h t. ⊎_elim
-      (λ (k : IsTrue (is_marked row u)). ⊎_elim
+      (λ (k : IsTrue (value_at row u)). ⊎_elim
       (λ (j : IsIn u todo). ⊎_elim
       (λ (i : IsIn u left). inl (f.keeps_open u i))
       (λ (i : IsIn u (w ∷ [])). inr (f.adds v (subst (λ x. IsTarget S x v) (only u w i) t)))
       (in_parts u left (w ∷ []) (subst (IsIn u) e j)))
-      (λ (j : IsTrue (is_marked row v)). inr (f.keeps v j))
+      (λ (j : IsTrue (value_at row v)). inr (f.keeps v j))
       (s.closed u v k t))
       (λ (k : IsTarget S w u × IsIn u more). inl k.1) (f.marked u h);
 }
@@ -111,14 +108,14 @@ searches_step S row after todo left more w e s f = record {
     before : (v : ℕ) → IsIn v left → IsIn v todo
     before v k = subst (IsIn v) (sym e) (in_left v left (w ∷ []) k)
 
-pub searches_end : (S : Kripke) (row : List Bool) (todo : List ℕ) → todo ≡ [] → Searches S row todo → (w : ℕ) → IsTrue (is_marked row w) ↔ Reached S w
+pub searches_end : (S : Kripke) (row : List Bool) (todo : List ℕ) → todo ≡ [] → Searches S row todo → (w : ℕ) → IsTrue (value_at row w) ↔ Reached S w
 searches_end S row todo e s w = (s.reached w, all w)
   where
-    all : (w : ℕ) → Reached S w → IsTrue (is_marked row w)
+    all : (w : ℕ) → Reached S w → IsTrue (value_at row w)
     all w (start i) = s.designated w i
     all w (step a u r i) = ⊎_elim
         (λ (k : IsIn u todo). absurd (subst (IsIn u) e k))
-        (λ (k : IsTrue (is_marked row w)). k)
+        (λ (k : IsTrue (value_at row w)). k)
         (s.closed u w (all u r) (a, i))
 
 -- the same in the words of the code
@@ -130,7 +127,7 @@ searches_from S n ds zeros row none todo q d z e f =
     (subst (λ (l : List Bool). Marks (λ v. IsIn v S.designated) l row none todo) (z ∙ ap (λ k. replicate k false) q)
     (subst (λ (l : List ℕ). Marks (λ v. IsIn v l) zeros row none todo) d f)))
 
-pub marked_within : (row : List Bool) (w : ℕ) → IsTrue (is_marked row w) → w < length row
+pub marked_within : (row : List Bool) (w : ℕ) → IsTrue (value_at row w) → w < length row
 marked_within row w h = ⊎_elim
     (λ (l : w < length row). l)
     (λ (g : length row ≤ w). absurd (false≢true (sym (get_or-eq_default row false g) ∙ h)))

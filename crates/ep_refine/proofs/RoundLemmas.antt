@@ -8,8 +8,7 @@ use Rattle.std.proofs.lemmas.List.FromFn.{get_or-map-range_with_len, length-map-
 use Rattle.ep_theory.specs.Kripke.{Kripke, IsState, truth_of}
 use Rattle.ep_theory.specs.Kind.{KindNode, node_cmp}
 use Rattle.ep_theory.specs.Ranks.{RanksAt, signature}
-use Rattle.ep_theory.proofs.Ranked.{signatures}
-use Rattle.ep_theory.proofs.Rounds.{stop, ranks_later}
+use Rattle.ep_theory.proofs.CallerLemmas.{signatures, stop, ranks_later}
 use Rattle.ep_refine.specs.Numbering.{OrdersAs}
 use Rattle.ep_refine.proofs.PlacesLemmas.{some_item}
 

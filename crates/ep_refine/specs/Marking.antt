@@ -1,11 +1,8 @@
 -- Worlds that are marked, and marked worlds that are still open.
-use Rattle.std.specs.Prelude.{◌≡◌, ℕ, suc, ◌+◌, ◌⊎◌, Bool, true, false, List, [], ◌∷◌, length, slice_index_or, IsTrue}
+use Rattle.std.specs.Prelude.{◌≡◌, ℕ, suc, ◌+◌, ◌⊎◌, Bool, true, false, List, [], ◌∷◌, length, IsTrue}
+use Rattle.ep_logic.specs.Rows.{value_at}
 use Rattle.ep_theory.specs.Rising.{IsIn}
 use Rattle.ep_theory.specs.Kripke.{Kripke, links_of}
-
--- the value of a world in a row, false past the end
-abbrev pub is_marked : List Bool → ℕ → Bool
-is_marked row w = slice_index_or row w false
 
 -- how many worlds are not marked
 abbrev pub unmarked : List Bool → ℕ
@@ -17,9 +14,9 @@ unmarked (false ∷ row) = suc (unmarked row)
 -- marked becomes open once.
 pub record Marks (P : ℕ → Type 0) (before after : List Bool) (open_before open_after : List ℕ) : Type 0 where
   pub long : length after ≡ length before
-  pub keeps : (w : ℕ) → IsTrue (is_marked before w) → IsTrue (is_marked after w)
-  pub adds : (w : ℕ) → P w → IsTrue (is_marked after w)
-  pub marked : (w : ℕ) → IsTrue (is_marked after w) → IsTrue (is_marked before w) ⊎ (P w × IsIn w open_after)
+  pub keeps : (w : ℕ) → IsTrue (value_at before w) → IsTrue (value_at after w)
+  pub adds : (w : ℕ) → P w → IsTrue (value_at after w)
+  pub marked : (w : ℕ) → IsTrue (value_at after w) → IsTrue (value_at before w) ⊎ (P w × IsIn w open_after)
   pub keeps_open : (w : ℕ) → IsIn w open_before → IsIn w open_after
   pub opened : (w : ℕ) → IsIn w open_after → IsIn w open_before ⊎ P w
   pub count : unmarked after + length open_after ≡ unmarked before + length open_before

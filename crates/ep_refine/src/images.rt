@@ -1,9 +1,10 @@
 // A state of kept worlds, under new numbers.
 
 ghost use Rattle.std.specs.Prelude.{◌≡◌, ◌<◌, ◌≤◌, All, length, map, slice_index, IfOk};
+ghost use Rattle.ep_kripke.specs.declared.limits.TheConstants.{MOST_WORLDS};
 ghost use Rattle.ep_theory.specs.Kripke.{IsState, links_of, successors, truth_of};
 ghost use Rattle.ep_theory.specs.Image.{IsImage};
-ghost use Rattle.ep_refine.specs.Marking.{is_marked};
+ghost use Rattle.ep_logic.specs.Rows.{value_at};
 ghost use Rattle.ep_refine.specs.Choices.{kept_numbers, IsChoice};
 
 use ep_kripke::{Rows, State};
@@ -21,22 +22,24 @@ pub fn image(
 ) -> Result<State, OutOfMemory>
     requires kept { length keep.now ≡ s.now.worlds }
     requires numbered { length numbers.now ≡ s.now.worlds }
-    requires few { length chosen.now ≤ 65536 }
-    requires choice { IsChoice s.now (is_marked keep.now) (slice_index numbers.now) chosen.now }
-    ensures image { IfOk result (IsImage s.now (is_marked keep.now) (slice_index numbers.now)) }
+    requires few { length chosen.now ≤ MOST_WORLDS }
+    requires choice { IsChoice s.now (value_at keep.now) (slice_index numbers.now) chosen.now }
+    ensures image { IfOk result (IsImage s.now (value_at keep.now) (slice_index numbers.now)) }
     ensures worlds { IfOk result (λ q. q.worlds ≡ length chosen.now) }
     ensures valid { IfOk result IsState }
 {
     let truth = truth_of_all(alloc, s, chosen)?;
     let relations = relations_of(alloc, s, keep, numbers, chosen)?;
     let designated = renumbered(alloc, s.designated(), keep, numbers)?;
-    Ok(State::from_rows(
+    let image = State::from_rows(
+        alloc,
         s.agents(),
         s.atoms(),
         truth,
         relations,
         List::from_vec(designated),
-    ))
+    )?;
+    Ok(image)
 }
 
 // The numbers of the kept worlds among these, in rising order, each once.
@@ -48,7 +51,7 @@ fn renumbered(
 ) -> Result<Vec<u32>, OutOfMemory>
     requires kept { All (λ w. w < length keep.now) worlds.now }
     requires numbered { length numbers.now ≡ length keep.now }
-    ensures { IfOk result (λ r. r.items ≡ kept_numbers (is_marked keep.now) (slice_index numbers.now) worlds.now) }
+    ensures { IfOk result (λ r. r.items ≡ kept_numbers (value_at keep.now) (slice_index numbers.now) worlds.now) }
 {
     let mut list = Vec::new(alloc);
     for w in worlds {
@@ -75,11 +78,13 @@ fn rows_of(
     requires numbered { length numbers.now ≡ s.now.worlds }
     requires worlds { All (λ w. w < s.now.worlds) chosen.now }
     ensures { IfOk result (λ rows. rows ≡
-        map (λ w. kept_numbers (is_marked keep.now) (slice_index numbers.now) (successors (links_of s.now a.n) w)) chosen.now) }
+        map (λ w. kept_numbers (value_at keep.now) (slice_index numbers.now) (successors (links_of s.now a.n) w)) chosen.now) }
 {
     let mut rows = Rows::new(alloc);
+    let mut targets = Vec::new(alloc);
     for w in chosen {
-        let row = renumbered(alloc, s.targets(a, WorldId { n: *w }), keep, numbers)?;
+        s.read_targets(a, WorldId { n: *w }, &mut targets)?;
+        let row = renumbered(alloc, &targets, keep, numbers)?;
         rows.push(&row)?;
     }
     Ok(rows)
@@ -96,7 +101,7 @@ fn relations_of(
     requires numbered { length numbers.now ≡ s.now.worlds }
     requires worlds { All (λ w. w < s.now.worlds) chosen.now }
     ensures { IfOk result (λ relations. relations ≡
-        map (λ pairs. map (λ w. kept_numbers (is_marked keep.now) (slice_index numbers.now) (successors pairs w)) chosen.now) s.now.links) }
+        map (λ pairs. map (λ w. kept_numbers (value_at keep.now) (slice_index numbers.now) (successors pairs w)) chosen.now) s.now.links) }
 {
     let mut relations = List::new(alloc);
     for a in 0..s.agents() {

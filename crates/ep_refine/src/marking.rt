@@ -6,6 +6,7 @@ ghost use Rattle.ep_refine.specs.Marking.{Marks, IsTarget};
 
 use ep_kripke::State;
 use ep_logic::{AgentId, Bits, OutOfMemory, WorldId};
+use std::alloc::Global;
 
 /// Marks the worlds, and opens those that were not marked.
 pub fn mark(marked: &mut Bits, waiting: &mut Vec<u32>, worlds: &[u32]) -> Result<(), OutOfMemory>
@@ -23,6 +24,7 @@ pub fn mark(marked: &mut Bits, waiting: &mut Vec<u32>, worlds: &[u32]) -> Result
 
 /// Marks the worlds to which some agent links `w`.
 pub fn mark_targets(
+    alloc: Global,
     s: &State,
     w: WorldId,
     marked: &mut Bits,
@@ -32,8 +34,10 @@ pub fn mark_targets(
     requires one_each { length marked.old ≡ s.now.worlds }
     ensures { OnOk result (Marks (IsTarget s.now w.n) marked.old marked.new waiting.old.items waiting.new.items) }
 {
+    let mut targets = Vec::new(alloc);
     for a in 0..s.agents() {
-        mark(marked, waiting, s.targets(AgentId { n: a }, w))?;
+        s.read_targets(AgentId { n: a }, w, &mut targets)?;
+        mark(marked, waiting, &targets)?;
     }
     Ok(())
 }

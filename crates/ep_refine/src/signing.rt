@@ -41,8 +41,10 @@ fn sign(alloc: Global, s: &State, w: WorldId, ranks: &[u32]) -> Result<Signature
     ensures { IfOk result (λ x. node_of x ≡ signature s.now (slice_index ranks.now) w.n) }
 {
     let mut lists = Vec::new(alloc);
+    let mut targets = Vec::new(alloc);
     for a in 0..s.agents() {
-        let list = distinct_ranks(alloc, s.targets(AgentId { n: a }, w), ranks)?;
+        s.read_targets(AgentId { n: a }, w, &mut targets)?;
+        let list = distinct_ranks(alloc, &targets, ranks)?;
         lists.push(list)?;
     }
     Ok(Signature {

@@ -5,7 +5,8 @@ use Rattle.std.proofs.lemmas.Bool.{cases_lt}
 use Rattle.std.proofs.lemmas.List.{take-append-le, take_all, length-append}
 use Rattle.ep_logic.specs.declared.ids.ActionId.{ActionId}
 use Rattle.ep_theory.specs.Kripke.{Kripke}
-use Rattle.ep_problem.specs.Plans.{Satisfies, after, Reaches}
+use Rattle.ep_theory.specs.Plans.{after, Reaches}
+use Rattle.ep_theory.specs.Truth.{Satisfies}
 use Rattle.ep_theory.specs.PlanningTask.{PlanningTask}
 use Rattle.ep_search.specs.Within.{IsOpen}
 

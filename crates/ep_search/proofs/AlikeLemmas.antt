@@ -4,10 +4,8 @@ use Rattle.ep_logic.specs.declared.formula.Node.{Node}
 use Rattle.ep_theory.specs.Kripke.{Kripke, IsState}
 use Rattle.ep_theory.specs.Bisimulation.{Bisimilar}
 use Rattle.ep_theory.specs.Canonical.{IsCanonical}
-use Rattle.ep_theory.proofs.Equivalence.{bisimilar_sym, bisimilar_trans}
-use Rattle.ep_theory.proofs.SameTruth.{same_at_all}
-use Rattle.ep_theory.proofs.Unique.{unique}
-use Rattle.ep_problem.specs.Plans.{Satisfies}
+use Rattle.ep_theory.proofs.CallerLemmas.{bisimilar_sym, bisimilar_trans, same_at_all, unique}
+use Rattle.ep_theory.specs.Truth.{Satisfies}
 use Rattle.ep_search.specs.Alike.{Alike}
 
 pub to_Alike : (S R : Kripke) → IsState S → IsState R → Bisimilar S R → Alike S R

@@ -3,7 +3,7 @@ use Rattle.std.proofs.Common.{◌≡◌, ℕ, ◌+◌, ◌<◌, ◌≤◌, List,
 use Rattle.std.proofs.lemmas.Option.{same_Some, none-some}
 use Rattle.ep_logic.specs.declared.ids.ActionId.{ActionId}
 use Rattle.ep_theory.specs.Kripke.{Kripke}
-use Rattle.ep_problem.specs.Plans.{after_from, Reaches}
+use Rattle.ep_theory.specs.Plans.{after_from, Reaches}
 use Rattle.ep_search.specs.Alike.{Alike}
 use Rattle.ep_theory.specs.PlanningTask.{PlanningTask}
 use Rattle.ep_search.proofs.AlikeLemmas.{Alike-sym, Satisfies-Alike}

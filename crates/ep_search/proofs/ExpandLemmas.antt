@@ -8,7 +8,7 @@ use Rattle.ep_logic.specs.declared.ids.ActionId.{ActionId}
 use Rattle.ep_theory.specs.PlanningTask.{PlanningTask}
 use Rattle.ep_store.specs.declared.entry.Entry.{Entry}
 use Rattle.ep_store.specs.Stored.{Has}
-use Rattle.ep_search.specs.declared.answer.Bounds.{Bounds}
+use Rattle.ep_bounds.specs.declared.bounds.Bounds.{Bounds}
 use Rattle.ep_search.specs.declared.progress.Progress.{Progress}
 use Rattle.ep_search.specs.Sound.{Closed, refused}
 use Rattle.ep_search.specs.Progresses.{Keeps, IsCovered, CoversBut, Tried, Expanded, spent}

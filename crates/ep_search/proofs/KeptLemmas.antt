@@ -1,6 +1,6 @@
 -- Counts that do not fall.
 use Rattle.std.proofs.Common.{ℕ, ◌+◌, ◌-◌, ◌^◌, ◌≤◌, min, inl, inr, sym, subst, arith}
-use Rattle.ep_guide.specs.Asked.{Rose}
+use Rattle.ep_base.specs.Counts.{Rose}
 use Rattle.ep_search.specs.Kept.{Kept}
 
 rose : (m a b c : ℕ) → min (a + 1) m ≤ b → min (b + 1) m ≤ c → min (a + 1) m ≤ c

@@ -5,17 +5,14 @@ use Rattle.ep_logic.specs.declared.ids.ActionId.{ActionId}
 use Rattle.ep_theory.specs.Kripke.{Kripke, IsState}
 use Rattle.ep_theory.specs.Events.{EventModel}
 use Rattle.ep_theory.specs.Product.{IsApplicable, product_of}
-use Rattle.ep_theory.proofs.Equivalence.{bisimilar_sym}
-use Rattle.ep_theory.proofs.ProductLemmas.{product-is_state}
-use Rattle.ep_update.specs.Updates.{IsProductUpTo}
-use Rattle.ep_search.specs.Made.{AppliesNowhere, IsMade}
+use Rattle.ep_theory.proofs.CallerLemmas.{bisimilar_sym, product-is_state, after_state, step_some, step_none, step_action}
+use Rattle.ep_update.specs.Updates.{IsProductUpTo, AppliesNowhere}
+use Rattle.ep_search.specs.Made.{IsMade}
 use Rattle.ep_theory.specs.PlanningTask.{PlanningTask, IsPlanningTask}
-use Rattle.ep_problem.specs.Plans.{Satisfies}
-use Rattle.ep_problem.proofs.Runs.{after_state}
+use Rattle.ep_theory.specs.Truth.{Satisfies}
 use Rattle.std.specs.List.{AllByRecursion}
 use Rattle.ep_logic.specs.declared.formula.Node.{Node}
 use Rattle.ep_theory.specs.Fits.{Fits, ActionFits}
-use Rattle.ep_problem.proofs.Steps.{step_some, step_none, step_action}
 use Rattle.ep_store.specs.declared.entry.Entry.{Entry}
 use Rattle.ep_store.specs.Stored.{Has}
 use Rattle.ep_search.specs.Alike.{Alike}

@@ -51,7 +51,7 @@ module _ (T : PlanningTask) (d w : ℕ) (es : List Entry) (sound : IsSound T d w
     -- the states picked at two places differ
     differ : (i j : ℕ) → i < j → j ≤ length es → (s t : Kripke) → s ≡ t
         → Has es i (λ e. e.canon ≡ s) ⊎ ((length es ≤ i) × (c ≡ s)) → Has es j (λ e. e.canon ≡ t) ⊎ ((length es ≤ j) × (c ≡ t)) → ⊥
-    differ i j lt le s t same (inl h) (inl k) = let e = sound.apart i j h.entry k.entry h.at k.at (h.holds ∙ same ∙ sym k.holds) in omega arith
+    differ i j lt le s t same (inl h) (inl k) = let e = sound.distinct i j h.entry k.entry h.at k.at (h.holds ∙ same ∙ sym k.holds) in omega arith
     differ i j lt le s t same (inl h) (inr k) = lacks i h.entry h.at (h.holds ∙ same ∙ sym k.1)
     differ i j lt le s t same (inr h) k = omega (arith, h.0)
 

@@ -6,7 +6,7 @@ use Rattle.ep_theory.specs.Kripke.{Kripke}
 use Rattle.ep_theory.specs.PlanningTask.{PlanningTask}
 use Rattle.ep_store.specs.declared.entry.Entry.{Entry}
 use Rattle.ep_store.specs.Stored.{Has}
-use Rattle.ep_search.specs.declared.answer.Bounds.{Bounds}
+use Rattle.ep_bounds.specs.declared.bounds.Bounds.{Bounds}
 use Rattle.ep_search.specs.declared.progress.Progress.{Progress}
 use Rattle.ep_search.specs.Sound.{Origin, Leads, Closed, refused, late, stored}
 use Rattle.ep_search.specs.Progresses.{Later, Waits, IsCovered, IsClosed, CoversBut}

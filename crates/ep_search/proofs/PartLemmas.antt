@@ -9,7 +9,7 @@ use Rattle.ep_logic.specs.declared.formula.Node.TheOpen.{Node-F}
 use Rattle.ep_logic.specs.declared.formula.Node.TheVariants.{And, Or}
 use Rattle.ep_logic.specs.declared.formula.Node.TheFolds.{fold-roll-Node, ind-Node}
 use Rattle.ep_logic.specs.Nodes.{node_count, count_step, is_formed}
-use Rattle.ep_logic.proofs.NodeLemmas.{count-And, count-Or, formed-And, formed-Or}
+use Rattle.ep_logic.proofs.CallerLemmas.{count-And, count-Or, formed-And, formed-Or}
 
 step_some : (x : Node-F ℕ) → 1 ≤ count_step x
 step_some Node-F.True = omega arith

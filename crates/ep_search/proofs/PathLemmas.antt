@@ -5,7 +5,8 @@ use Rattle.std.proofs.lemmas.List.{length-append}
 use Rattle.ep_logic.specs.declared.ids.ActionId.{ActionId}
 use Rattle.ep_logic.specs.declared.ids.StateId.{StateId}
 use Rattle.ep_theory.specs.Kripke.{Kripke}
-use Rattle.ep_problem.specs.Plans.{Satisfies, after}
+use Rattle.ep_theory.specs.Plans.{after}
+use Rattle.ep_theory.specs.Truth.{Satisfies}
 use Rattle.ep_search.specs.Alike.{Alike}
 use Rattle.ep_theory.specs.PlanningTask.{PlanningTask}
 use Rattle.ep_search.specs.Within.{IsOpen}
@@ -13,7 +14,7 @@ use Rattle.ep_search.proofs.AlikeLemmas.{Alike-sym, Satisfies-Alike}
 use Rattle.ep_store.specs.declared.entry.Entry.{Entry}
 use Rattle.ep_store.specs.Stored.{Has, IsPath, start, step as further}
 use Rattle.ep_search.specs.Sound.{IsSound, Origin, Leads}
-use Rattle.ep_problem.proofs.Runs.{after-snoc}
+use Rattle.ep_theory.proofs.CallerLemmas.{after-snoc}
 use Rattle.ep_search.proofs.AfterLemmas.{IsOpen-empty, IsOpen-snoc}
 
 -- the plan is open, and leads to a state that is bisimilar to c

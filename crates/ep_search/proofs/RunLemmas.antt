@@ -6,19 +6,19 @@ use Rattle.std.proofs.lemmas.List.Sums.{sum_by-set, sum_by-append}
 use Rattle.ep_logic.specs.declared.ids.ActionId.{ActionId}
 use Rattle.ep_logic.specs.declared.ids.StateId.{StateId}
 use Rattle.ep_theory.specs.PlanningTask.{PlanningTask}
-use Rattle.ep_problem.specs.Plans.{Reaches}
+use Rattle.ep_theory.specs.Plans.{Reaches}
 use Rattle.ep_guide.specs.declared.frontier.Waiting.{Waiting}
 use Rattle.ep_store.specs.declared.entry.Entry.{Entry}
 use Rattle.ep_store.specs.Stored.{Has}
-use Rattle.ep_search.specs.declared.answer.Bounds.{Bounds}
-use Rattle.ep_search.specs.declared.answer.Mode.{Mode}
-use Rattle.ep_search.specs.declared.answer.Mode.TheVariants as mode
 use Rattle.ep_search.specs.declared.progress.Progress.{Progress}
 use Rattle.ep_search.specs.Allowed.{IsShortest, NoneWithin}
 use Rattle.ep_search.specs.Sound.{IsBest, late}
 use Rattle.ep_search.specs.Progresses.{Keeps, Waits, IsCovered, IsClosed, CoversBut, CoversAll, spent}
 use Rattle.ep_search.proofs.SoundLemmas.{same_place}
 use Rattle.ep_search.proofs.CoverLemmas.{none_shorter}
+use Rattle.ep_bounds.specs.declared.bounds.Bounds.{Bounds}
+use Rattle.ep_bounds.specs.declared.bounds.Mode.{Mode}
+use Rattle.ep_bounds.specs.declared.bounds.Mode.TheVariants as mode
 
 abbrev pub with_frontier : Progress → List Waiting → Progress
 with_frontier p fr = record { store = p.store; frontier = fr; expanded = p.expanded; best = p.best; least = p.least }

@@ -3,13 +3,13 @@ use Rattle.std.proofs.Common.{◌≡◌, ℕ, zero, suc, ◌+◌, ◌*◌, ◌�
 use Rattle.std.proofs.Math.Nat.{mul-le-mul_left, mul_comm}
 use Rattle.std.proofs.lemmas.List.{length-append, length-map}
 use Rattle.std.proofs.lemmas.List.Sums.{sum_by-append}
-use Rattle.ep_theory.specs.Numbers.{numbers_where, pairs_within, table, has_number}
+use Rattle.ep_logic.specs.Numbers.{numbers_where, pairs_within, table, has_number}
 use Rattle.ep_theory.specs.Kripke.{Kripke, IsState}
-use Rattle.ep_theory.proofs.NumbersLemmas.{rising_is_numbers}
+use Rattle.ep_theory.proofs.CallerLemmas.{rising_is_numbers}
 use Rattle.ep_theory.specs.Events.{EventModel}
 use Rattle.ep_theory.specs.Fits.{link_count}
 use Rattle.ep_theory.specs.Product.{places, place_at, applies, links_both, product_of}
-use Rattle.ep_update.proofs.NumbersWhere.{length-numbers_where}
+use Rattle.ep_update.proofs.CallerLemmas.{length-numbers_where}
 
 one_more : (k n m x y : ℕ) → k ≤ m * n → x ≤ n → y ≡ k + x → y ≤ suc m * n
 one_more k n m x y h le e = omega (arith, mul_comm m n, mul_comm (suc m) n)

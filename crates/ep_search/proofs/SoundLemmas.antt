@@ -5,12 +5,12 @@ use Rattle.std.proofs.lemmas.Bool.Decides.{eqb_tells}
 use Rattle.ep_logic.specs.declared.ids.ActionId.{ActionId}
 use Rattle.ep_logic.specs.declared.ids.StateId.{StateId}
 use Rattle.ep_theory.specs.Kripke.{Kripke}
-use Rattle.ep_problem.specs.Plans.{Satisfies}
+use Rattle.ep_theory.specs.Truth.{Satisfies}
 use Rattle.ep_theory.specs.Canonical.{IsCanonical}
 use Rattle.ep_theory.specs.PlanningTask.{PlanningTask}
 use Rattle.ep_store.specs.declared.entry.Entry.{Entry}
 use Rattle.ep_store.specs.Stored.{Has, Lacks}
-use Rattle.ep_store.proofs.PlaceLemmas.{at_push_old, at_push_cases, at_set_same, at_set_other, at_set_cases}
+use Rattle.ep_store.proofs.CallerLemmas.{at_push_old, at_push_cases, at_set_same, at_set_other, at_set_cases}
 use Rattle.ep_search.specs.Sound.{IsSound, IsMet, Origin, Leads}
 use Rattle.ep_search.proofs.MoveLemmas.{LaterEntries, Origin-later}
 
@@ -69,7 +69,7 @@ module _ (T : PlanningTask) (d w : ℕ) (es : List Entry) (sound : IsSound T d w
   sound_push lacks = record {
     first = record { entry = sound.first.entry; at = at_push_old es x 0 sound.first.entry sound.first.at; holds = sound.first.holds };
     each = λ i f h. each_by i f (at_push_cases es x i f h);
-    apart = λ i j f g h k same. apart_by i j f g same (at_push_cases es x i f h) (at_push_cases es x j g k);
+    distinct = λ i j f g h k same. apart_by i j f g same (at_push_cases es x i f h) (at_push_cases es x j g k);
   }
     where
       each_by : (i : ℕ) (f : Entry) → (slice_get es i ≡ Some f) ⊎ ((i ≡ length es) × (x ≡ f)) → IsMet T d w (es ++ x ∷ []) i f
@@ -77,7 +77,7 @@ module _ (T : PlanningTask) (d w : ℕ) (es : List Entry) (sound : IsSound T d w
       each_by i f (inr h) = subst (IsMet T d w (es ++ x ∷ []) i) h.1 (new_met (es ++ x ∷ []) i (at_push_old es x id.n e at))
 
       apart_by : (i j : ℕ) (f g : Entry) → f.canon ≡ g.canon → (slice_get es i ≡ Some f) ⊎ ((i ≡ length es) × (x ≡ f)) → (slice_get es j ≡ Some g) ⊎ ((j ≡ length es) × (x ≡ g)) → i ≡ j
-      apart_by i j f g same (inl h) (inl k) = sound.apart i j f g h k same
+      apart_by i j f g same (inl h) (inl k) = sound.distinct i j f g h k same
       apart_by i j f g same (inl h) (inr k) = absurd (lacks i f h (same ∙ sym (ap (λ (y : Entry). y.canon) k.1)))
       apart_by i j f g same (inr h) (inl k) = absurd (lacks j g k (sym same ∙ sym (ap (λ (y : Entry). y.canon) h.1)))
       apart_by i j f g same (inr h) (inr k) = h.0 ∙ sym k.0
@@ -94,7 +94,7 @@ module _ (T : PlanningTask) (d w : ℕ) (es : List Entry) (sound : IsSound T d w
     sound_set = record {
       first = record { entry = sound.first.entry; at = at_set_other es j 0 x not_first ∙ sound.first.at; holds = sound.first.holds };
       each = λ i g h. each_by i g (at_set_cases es j i x g h);
-      apart = λ i k g y h l eq. apart_by i k g y eq (at_set_cases es j i x g h) (at_set_cases es j k x y l);
+      distinct = λ i k g y h l eq. apart_by i k g y eq (at_set_cases es j i x g h) (at_set_cases es j k x y l);
     }
       where
         not_first : j ≢ 0
@@ -112,6 +112,6 @@ module _ (T : PlanningTask) (d w : ℕ) (es : List Entry) (sound : IsSound T d w
 
         apart_by : (i k : ℕ) (g y : Entry) → g.canon ≡ y.canon → ((j ≡ i) × (x ≡ g)) ⊎ ((j ≢ i) × (slice_get es i ≡ Some g)) → ((j ≡ k) × (x ≡ y)) ⊎ ((j ≢ k) × (slice_get es k ≡ Some y)) → i ≡ k
         apart_by i k g y eq (inl h) (inl l) = sym h.0 ∙ l.0
-        apart_by i k g y eq (inl h) (inr l) = sym h.0 ∙ sound.apart j k f y atj l.1 (same ∙ canon x g h.1 ∙ eq)
-        apart_by i k g y eq (inr h) (inl l) = sound.apart i j g f h.1 atj (eq ∙ sym (canon x y l.1) ∙ sym same) ∙ l.0
-        apart_by i k g y eq (inr h) (inr l) = sound.apart i k g y h.1 l.1 eq
+        apart_by i k g y eq (inl h) (inr l) = sym h.0 ∙ sound.distinct j k f y atj l.1 (same ∙ canon x g h.1 ∙ eq)
+        apart_by i k g y eq (inr h) (inl l) = sound.distinct i j g f h.1 atj (eq ∙ sym (canon x y l.1) ∙ sym same) ∙ l.0
+        apart_by i k g y eq (inr h) (inr l) = sound.distinct i k g y h.1 l.1 eq

@@ -3,27 +3,29 @@ use Rattle.std.proofs.Common.{◌≡◌, ℕ, zero, suc, ◌+◌, ◌<◌, ◌�
 use Rattle.std.proofs.lemmas.Option.{same_Some, none-some}
 use Rattle.ep_logic.specs.declared.ids.ActionId.{ActionId}
 use Rattle.ep_base.specs.declared.memory.OutOfMemory.{OutOfMemory}
-use Rattle.ep_theory.specs.Kripke.{Kripke, IsState}
-use Rattle.ep_problem.specs.Plans.{Satisfies, Reaches}
+use Rattle.ep_theory.specs.Kripke.{Kripke}
+use Rattle.ep_theory.specs.Plans.{Reaches}
+use Rattle.ep_theory.specs.Truth.{Satisfies}
 use Rattle.ep_theory.specs.Canonical.{IsCanonical, Contracts}
 use Rattle.ep_search.specs.Alike.{Alike}
-use Rattle.ep_search.specs.Limits.{IsBounds}
+use Rattle.ep_bounds.specs.Bounds.{IsBounds}
 use Rattle.ep_theory.specs.PlanningTask.{PlanningTask}
 use Rattle.ep_guide.specs.declared.frontier.Waiting.{Waiting}
-use Rattle.ep_guide.specs.Asked.{Rose}
+use Rattle.ep_base.specs.Counts.{Rose}
 use Rattle.ep_search.specs.Kept.{Kept}
 use Rattle.ep_guide.specs.Waitings.{placed}
 use Rattle.ep_store.specs.declared.entry.Entry.{Entry}
 use Rattle.ep_store.specs.declared.entry.Added.{Added}
 use Rattle.ep_store.specs.declared.entry.Added.TheVariants.{New, Better, Known}
 use Rattle.ep_store.specs.Stored.{Stored, IsAdded}
-use Rattle.ep_search.specs.declared.answer.Bounds.{Bounds}
-use Rattle.ep_search.specs.declared.answer.Mode.{Mode}
-use Rattle.ep_search.specs.declared.answer.Mode.TheVariants as mode
+use Rattle.ep_bounds.specs.declared.bounds.Bounds.{Bounds}
+use Rattle.ep_bounds.specs.declared.bounds.Mode.{Mode}
+use Rattle.ep_bounds.specs.declared.bounds.Mode.TheVariants as mode
 use Rattle.ep_search.specs.declared.answer.Answer.{Answer}
 use Rattle.ep_search.specs.declared.answer.Answer.TheVariants as answer
 use Rattle.ep_search.specs.declared.progress.Progress.{Progress}
-use Rattle.ep_search.specs.Allowed.{IsShortest, IsFound, IsWide, IsSpent, Allowed, WasAsked, Completes, IsPlanOf}
+use Rattle.ep_search.specs.Within.{IsWide}
+use Rattle.ep_search.specs.Allowed.{IsShortest, IsFound, IsSpent, Allowed, WasAsked, Completes, IsPlanOf}
 use Rattle.ep_search.specs.Sound.{IsMet}
 use Rattle.ep_search.specs.Progresses.{Keeps, Waits, CoversAll}
 use Rattle.ep_search.proofs.AfterLemmas.{IsOpen-empty}
@@ -62,7 +64,7 @@ module _ (T : PlanningTask) (b : Bounds) (c : Kripke) (bounds : IsBounds b) (can
     sound = record {
       first = record { entry = first_entry c; at = refl; holds = (refl, alike) };
       each = λ i e at. met i e (at_one (first_entry c) e i at);
-      apart = λ i j e f h k same. (at_one (first_entry c) e i h).0 ∙ sym (at_one (first_entry c) f j k).0;
+      distinct = λ i j e f h k same. (at_one (first_entry c) e i h).0 ∙ sym (at_one (first_entry c) f j k).0;
     };
     best = refl;
     limit = refl;
@@ -89,10 +91,10 @@ module _ (T : PlanningTask) (b : Bounds) (c : Kripke) (bounds : IsBounds b) (can
 pub Reaches-empty : (T : PlanningTask) → Satisfies T.initial T.goal → Reaches T []
 Reaches-empty T h = record { state = T.initial; is_after = refl; goal = h }
 
-pub IsWide-empty : (T : PlanningTask) (d w : ℕ) (c : Kripke) → IsState c → Contracts T.initial c → (Satisfies T.initial T.goal → ⊥) → w < c.worlds → IsWide T d w []
-IsWide-empty T d w c valid contracts unmet wide = record {
+pub IsWide-empty : (T : PlanningTask) (d w : ℕ) (c : Kripke) → Contracts T.initial c → (Satisfies T.initial T.goal → ⊥) → w < c.worlds → IsWide T d w []
+IsWide-empty T d w c contracts unmet wide = record {
   within = record { short = omega arith; state = T.initial; is_after = refl; open_plan = IsOpen-empty T unmet };
-  wide = record { state = T.initial; is_after = refl; contraction = c; is_state = valid; contracts = contracts; wide = wide };
+  wide = record { state = T.initial; is_after = refl; contraction = c; contracts = contracts; wide = wide };
 }
 
 some_depth : (p : List ActionId) (d : ℕ) → length p ≤ d → (p ≡ [] → ⊥) → 1 ≤ d
@@ -135,7 +137,7 @@ completes T d n w m answer.NoneTo h = record {
   none = λ free. ((λ _. h), (λ _. refl));
 }
 completes T d n w m answer.ManyStates h = spent_completes T d n w m answer.ManyStates (inl h)
-completes T d n w m (answer.Wide p) h = spent_completes T d n w m (answer.Wide p) (inr (record { plan = p; within = h.within; wide = h.wide }))
+completes T d n w m (answer.Wide p) h = spent_completes T d n w m (answer.Wide p) (inr (p, h))
 
 module _ (T : PlanningTask) (b : Bounds) (c : Kripke) (bounds : IsBounds b) (canonical : IsCanonical c) (alike : Alike T.initial c) (unmet : Satisfies c T.goal → ⊥) (narrow : c.worlds ≤ b.worlds)
     (v : Vec ℕ Global) (items : v.items ≡ b.depth ∷ []) (r : Added) (s0 s : Stored) (empty : s0 ≡ record { limit = b.states; entries = [] }) (adds : IsAdded s0 (first_entry c) r s) where
@@ -168,8 +170,8 @@ shortest_empty T d p nil h = subst (IsShortest T d) (sym nil) (record { short = 
 pub found_empty : (T : PlanningTask) (d n w : ℕ) (m : Mode) (p : List ActionId) → p ≡ [] → Satisfies T.initial T.goal → m ≡ mode.First → IsFound T d n w m p
 found_empty T d n w m p nil h first = subst (IsFound T d n w m) (sym nil) (record { short = omega arith; reaches = Reaches-empty T h; cause = inl first })
 
-pub wide_empty : (T : PlanningTask) (d w : ℕ) (c : Kripke) (p : List ActionId) → p ≡ [] → IsState c → Contracts T.initial c → (Satisfies T.initial T.goal → ⊥) → w < c.worlds → IsWide T d w p
-wide_empty T d w c p nil valid contracts unmet wide = subst (IsWide T d w) (sym nil) (IsWide-empty T d w c valid contracts unmet wide)
+pub wide_empty : (T : PlanningTask) (d w : ℕ) (c : Kripke) (p : List ActionId) → p ≡ [] → Contracts T.initial c → (Satisfies T.initial T.goal → ⊥) → w < c.worlds → IsWide T d w p
+wide_empty T d w c p nil contracts unmet wide = subst (IsWide T d w) (sym nil) (IsWide-empty T d w c contracts unmet wide)
 
 pub asked_ok : (T : PlanningTask) (d n w : ℕ) (m : Mode) (g h k : ℕ) (r : Result Answer OutOfMemory) → IfOk r (Allowed T d n w m) → (1 ≤ d → Rose g h) → Kept h k → IfOk r (λ a. WasAsked d a g k)
 asked_ok T d n w m g h k (Ok a) allowed rose kept = was_asked T d n w m a g h k allowed rose kept

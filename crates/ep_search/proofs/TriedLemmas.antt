@@ -8,24 +8,25 @@ use Rattle.std.proofs.lemmas.List.Sums.{sum_by-append}
 use Rattle.ep_logic.specs.declared.ids.ActionId.{ActionId}
 use Rattle.ep_logic.specs.declared.ids.StateId.{StateId}
 use Rattle.ep_theory.specs.Kripke.{Kripke}
-use Rattle.ep_problem.specs.Plans.{Satisfies, Reaches, after}
+use Rattle.ep_theory.specs.Plans.{Reaches, after}
+use Rattle.ep_theory.specs.Truth.{Satisfies}
 use Rattle.ep_theory.specs.Canonical.{IsCanonical}
 use Rattle.ep_theory.specs.PlanningTask.{PlanningTask}
-use Rattle.ep_search.specs.Within.{ManyWithin, Wide, WideWithin}
+use Rattle.ep_search.specs.Within.{ManyWithin, Wide, IsWide}
 use Rattle.ep_search.proofs.AlikeLemmas.{from_Alike, Alike-sym, Satisfies-Alike}
 use Rattle.ep_guide.specs.declared.frontier.Waiting.{Waiting}
 use Rattle.ep_guide.specs.Waitings.{placed}
 use Rattle.ep_store.specs.declared.entry.Entry.{Entry}
 use Rattle.ep_store.specs.Stored.{Stored, Has, Lacks, IsNew, IsBetter, IsKnown, IsPath}
-use Rattle.ep_store.proofs.PlaceLemmas.{at_push_old, at_push_new, at_push_cases, at_set_same, at_set_other, at_set_cases}
-use Rattle.ep_search.specs.declared.answer.Bounds.{Bounds}
+use Rattle.ep_store.proofs.CallerLemmas.{at_push_old, at_push_new, at_push_cases, at_set_same, at_set_other, at_set_cases}
+use Rattle.ep_bounds.specs.declared.bounds.Bounds.{Bounds}
 use Rattle.ep_search.specs.declared.progress.Progress.{Progress}
-use Rattle.ep_search.specs.declared.answer.Mode.{Mode}
+use Rattle.ep_bounds.specs.declared.bounds.Mode.{Mode}
 use Rattle.ep_search.specs.Allowed.{IsSpent, IsFound}
 use Rattle.ep_search.proofs.ManyLemmas.{entry_plan, PlanTo-open, full_is_many}
 use Rattle.ep_search.specs.Sound.{IsSound, IsBest, Leads, Closed, late, stored}
 use Rattle.ep_search.specs.Progresses.{Keeps, Waits, CoversBut, Tried, LeadsToGoal, spent}
-use Rattle.ep_problem.proofs.Runs.{after-snoc}
+use Rattle.ep_theory.proofs.CallerLemmas.{after-snoc}
 use Rattle.ep_search.proofs.PathLemmas.{PlanTo, PlanTo-snoc, IsPath-plan}
 use Rattle.ep_search.proofs.MoveLemmas.{LaterEntries, Moves, CoversBut-moves}
 use Rattle.ep_search.proofs.SoundLemmas.{child_entry, later_push, later_set, sound_push, sound_set, other}
@@ -305,19 +306,20 @@ module _ (T : PlanningTask) (d w : ℕ) (es : List Entry) (sound : IsSound T d w
 pub wide_plan : (T : PlanningTask) (p : List ActionId) (c : Kripke) (w : ℕ) → PlanTo T p c → IsCanonical c → w < c.worlds → Wide T p w
 wide_plan T p c w to canonical wide =
     let same = from_Alike to.state c to.bisimilar in
-    record { state = to.state; is_after = to.is_after; contraction = c; is_state = same.1; contracts = record { canonical = canonical; bisimilar = same.2 }; wide = wide }
+    record { state = to.state; is_after = to.is_after; contraction = c; contracts = record { valid = same.1; canonical = canonical; bisimilar = same.2 }; wide = wide }
 
 -- an action leads from an entry to a state that is too wide
 pub wide_by : (T : PlanningTask) (d w : ℕ) (es : List Entry) (sound : IsSound T d w es) (i : ℕ) (a : ActionId) (e : Entry) (c : Kripke) → slice_get es i ≡ Some e → e.depth < d
-    → Leads T e.canon a c → IsCanonical c → (Satisfies c T.goal → ⊥) → w < c.worlds → WideWithin T d w
+    → Leads T e.canon a c → IsCanonical c → (Satisfies c T.goal → ⊥) → w < c.worlds → (p : List ActionId) × IsWide T d w p
 wide_by T d w es sound i a e c at below leads canonical unmet wide =
     let p = entry_plan T d w es sound i e at in
-    let to = PlanTo-snoc T p.0 a e.canon c p.2 leads unmet in
-    record {
-      plan = p.0 ++ a ∷ [];
-      within = PlanTo-open T d (p.0 ++ a ∷ []) c (omega (arith, length-append p.0 (a ∷ []), p.1)) to;
-      wide = wide_plan T (p.0 ++ a ∷ []) c w to canonical wide;
-    }
+    let to = PlanTo-snoc T p.0 a e.canon c p.2 leads unmet in (
+      p.0 ++ a ∷ [],
+      record {
+        within = PlanTo-open T d (p.0 ++ a ∷ []) c (omega (arith, length-append p.0 (a ∷ []), p.1)) to;
+        wide = wide_plan T (p.0 ++ a ∷ []) c w to canonical wide;
+      },
+    )
 
 -- the best plan is an answer, once a budget has ended
 pub found_by : (T : PlanningTask) (d n w : ℕ) (m : Mode) (least : ℕ) (q : List ActionId) → IsBest T d least (Some q) → IsSpent T d n w → IsFound T d n w m q

@@ -2,12 +2,12 @@
 use Rattle.std.specs.Prelude.{◌≡◌, ℕ, ◌<◌, ◌≤◌, ◌⊎◌, ◌↔◌, List, [], length}
 use Rattle.ep_logic.specs.declared.ids.ActionId.{ActionId}
 use Rattle.ep_theory.specs.PlanningTask.{PlanningTask}
-use Rattle.ep_problem.specs.Plans.{Reaches}
-use Rattle.ep_search.specs.Within.{OpenWithin, ManyWithin, Wide, WideWithin}
-use Rattle.ep_guide.specs.Asked.{Rose}
-use Rattle.ep_search.specs.declared.answer.Mode.{Mode}
-use Rattle.ep_search.specs.declared.answer.Mode.TheVariants as mode
 use Rattle.ep_search.specs.declared.answer.Answer.{Answer}
+use Rattle.ep_search.specs.Within.{ManyWithin, IsWide}
+use Rattle.ep_base.specs.Counts.{Rose}
+use Rattle.ep_theory.specs.Plans.{Reaches}
+use Rattle.ep_bounds.specs.declared.bounds.Mode.{Mode}
+use Rattle.ep_bounds.specs.declared.bounds.Mode.TheVariants as mode
 use Rattle.ep_search.specs.declared.answer.Answer.TheVariants as answer
 
 -- no plan of at most d actions reaches the goal
@@ -22,18 +22,13 @@ pub record IsShortest (T : PlanningTask) (d : ℕ) (p : List ActionId) : Type 0 
 
 -- more than n states, or a state of more than w worlds, lie within d actions
 abbrev pub IsSpent : PlanningTask → ℕ → ℕ → ℕ → Type 0
-IsSpent T d n w = ManyWithin T d n ⊎ WideWithin T d w
+IsSpent T d n w = ManyWithin T d n ⊎ ((p : List ActionId) × IsWide T d w p)
 
 -- the plan reaches the goal; that it may not be shortest is what was asked for, or a budget is too small
 pub record IsFound (T : PlanningTask) (d n w : ℕ) (m : Mode) (p : List ActionId) : Type 0 where
   pub short : length p ≤ d
   pub reaches : Reaches T p
   pub cause : (m ≡ mode.First) ⊎ IsSpent T d n w
-
--- evidence of a state that is too wide
-pub record IsWide (T : PlanningTask) (d w : ℕ) (p : List ActionId) : Type 0 where
-  pub within : OpenWithin T d p
-  pub wide : Wide T p w
 
 -- the answer is right, whatever else holds
 abbrev pub Allowed : PlanningTask → ℕ → ℕ → ℕ → Mode → Answer → Type 0

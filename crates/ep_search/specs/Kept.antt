@@ -1,6 +1,6 @@
 -- A count that never falls.
 use Rattle.std.specs.Prelude.{◌≡◌, ℕ, ◌⊎◌}
-use Rattle.ep_guide.specs.Asked.{Rose}
+use Rattle.ep_base.specs.Counts.{Rose}
 
 -- the count is as before, or it rose
 abbrev pub Kept : ℕ → ℕ → Type 0

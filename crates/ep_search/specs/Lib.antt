@@ -1,9 +1,10 @@
 pub mod Alike
-pub mod Conjuncts
-pub mod Kept
-pub mod Within
 pub mod Allowed
-pub mod Limits
+pub mod Conjuncts
+pub mod Goal
+pub mod Kept
 pub mod Made
-pub mod Sound
 pub mod Progresses
+pub mod Setting
+pub mod Sound
+pub mod Within

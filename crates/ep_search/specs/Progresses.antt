@@ -2,13 +2,13 @@
 use Rattle.std.specs.Prelude.{◌≡◌, ℕ, ◌+◌, ◌-◌, ◌<◌, ◌≤◌, ◌⊎◌, List, [], ◌∷◌, length, Option, Some, None, slice_get, slice_index, sum_by}
 use Rattle.ep_theory.specs.Kripke.{Kripke}
 use Rattle.ep_logic.specs.declared.ids.ActionId.{ActionId}
-use Rattle.ep_problem.specs.Plans.{Satisfies}
+use Rattle.ep_theory.specs.Truth.{Satisfies}
 use Rattle.ep_theory.specs.PlanningTask.{PlanningTask}
 use Rattle.ep_guide.specs.declared.frontier.Waiting.{Waiting}
 use Rattle.ep_store.specs.declared.entry.Entry.{Entry}
 use Rattle.ep_store.specs.Stored.{Has}
-use Rattle.ep_search.specs.declared.answer.Bounds.{Bounds}
-use Rattle.ep_search.specs.declared.answer.Mode.{Mode}
+use Rattle.ep_bounds.specs.declared.bounds.Bounds.{Bounds}
+use Rattle.ep_bounds.specs.declared.bounds.Mode.{Mode}
 use Rattle.ep_search.specs.declared.answer.Answer.{Answer}
 use Rattle.ep_search.specs.declared.progress.Progress.{Progress}
 use Rattle.ep_search.specs.Allowed.{Allowed}

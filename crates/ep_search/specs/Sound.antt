@@ -5,10 +5,11 @@ use Rattle.ep_logic.specs.declared.ids.ActionId.{ActionId}
 use Rattle.ep_logic.specs.declared.ids.StateId.{StateId}
 use Rattle.ep_search.specs.Alike.{Alike}
 use Rattle.ep_theory.specs.Canonical.{IsCanonical}
-use Rattle.ep_problem.specs.Plans.{Satisfies, step, Reaches}
+use Rattle.ep_theory.specs.Plans.{step, Reaches}
+use Rattle.ep_theory.specs.Truth.{Satisfies}
 use Rattle.ep_theory.specs.PlanningTask.{PlanningTask}
 use Rattle.ep_store.specs.declared.entry.Entry.{Entry}
-use Rattle.ep_store.specs.Stored.{Has}
+use Rattle.ep_store.specs.Stored.{Has, AreDistinct}
 
 -- the action leads from each state that is bisimilar to c to one that is bisimilar to b
 abbrev pub Leads : PlanningTask → Kripke → ActionId → Kripke → Type 0
@@ -33,7 +34,7 @@ pub record IsMet (T : PlanningTask) (d w : ℕ) (es : List Entry) (i : ℕ) (e :
 pub record IsSound (T : PlanningTask) (d w : ℕ) (es : List Entry) : Type 0 where
   pub first : Has es 0 (λ e. (e.depth ≡ 0) × Alike T.initial e.canon)
   pub each : (i : ℕ) (e : Entry) → slice_get es i ≡ Some e → IsMet T d w es i e
-  pub apart : (i j : ℕ) (e f : Entry) → slice_get es i ≡ Some e → slice_get es j ≡ Some f → e.canon ≡ f.canon → i ≡ j
+  pub distinct : AreDistinct es
 
 -- the best plan, and its length; one more than the bound where there is none
 abbrev pub IsBest : PlanningTask → ℕ → ℕ → Option (List ActionId) → Type 0

@@ -1,11 +1,11 @@
 -- What lies within a bound, by plans and their plain products alone. This project's own.
 use Rattle.std.specs.Prelude.{◌≡◌, ℕ, ◌<◌, ◌≤◌, List, length, take, Some}
 use Rattle.ep_logic.specs.declared.ids.ActionId.{ActionId}
-use Rattle.ep_theory.specs.Kripke.{Kripke, IsState}
+use Rattle.ep_theory.specs.Kripke.{Kripke}
 use Rattle.ep_theory.specs.Bisimulation.{Bisimilar}
 use Rattle.ep_theory.specs.Canonical.{Contracts}
 use Rattle.ep_theory.specs.PlanningTask.{PlanningTask}
-use Rattle.ep_problem.specs.Plans.{after, Reaches}
+use Rattle.ep_theory.specs.Plans.{after, Reaches}
 
 -- no part of the plan from its start on reaches the goal, nor does the whole plan
 abbrev pub IsOpen : PlanningTask → List ActionId → Type 0
@@ -33,12 +33,10 @@ pub record Wide (T : PlanningTask) (p : List ActionId) (w : ℕ) : Type 0 where
   pub state : Kripke
   pub is_after : after T p ≡ Some state
   pub contraction : Kripke
-  pub is_state : IsState contraction
   pub contracts : Contracts state contraction
   pub wide : w < contraction.worlds
 
--- some open plan of at most d actions does so
-pub record WideWithin (T : PlanningTask) (d w : ℕ) : Type 0 where
-  pub plan : List ActionId
-  pub within : OpenWithin T d plan
-  pub wide : Wide T plan w
+-- an open plan of at most d actions does so
+pub record IsWide (T : PlanningTask) (d w : ℕ) (p : List ActionId) : Type 0 where
+  pub within : OpenWithin T d p
+  pub wide : Wide T p w

@@ -1,21 +1,5 @@
 use ep_problem::Plan;
 
-/// How far a search goes: `depth` is the most actions of a plan, at most 1,000; `states` the most states that are
-/// stored, 1 to 16,384; `worlds` the most worlds of a contracted state, at most 256.
-#[derive(Clone, Copy)]
-pub struct Bounds {
-    pub depth: u32,
-    pub states: u32,
-    pub worlds: u32,
-}
-
-/// Whether a search goes on from the first plan that it meets until that is proved shortest.
-#[derive(Clone, Copy)]
-pub enum Mode {
-    Prove,
-    First,
-}
-
 /// What a search answers.
 #[derive(Drop)]
 pub enum Answer {

@@ -1,5 +1,5 @@
 ghost use Rattle.std.specs.Prelude.{◌≡◌, ℕ, ◌<◌, ◌≤◌, OnOk, length};
-ghost use Rattle.ep_guide.specs.Asked.{Rose};
+ghost use Rattle.ep_base.specs.Counts.{Rose};
 ghost use Rattle.ep_guide.specs.Waitings.{placed};
 
 use crate::progress::Progress;

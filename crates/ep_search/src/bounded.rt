@@ -1,19 +1,21 @@
 ghost use Rattle.std.specs.Prelude.{◌≡◌, ◌+◌, ◌*◌, ◌<◌, ◌≤◌, IfOk, OnOk, length};
-ghost use Rattle.ep_guide.specs.Asked.{Rose};
+ghost use Rattle.ep_base.specs.Counts.{Rose};
 ghost use Rattle.ep_theory.specs.Canonical.{IsCanonical};
-ghost use Rattle.ep_problem.specs.Plans.{Satisfies};
+ghost use Rattle.ep_theory.specs.Truth.{Satisfies};
 ghost use Rattle.ep_search.specs.Alike.{Alike};
 ghost use Rattle.ep_search.specs.Allowed.{Allowed, WasAsked, Completes};
-ghost use Rattle.ep_search.specs.Limits.{IsBounds, IsSetting};
+ghost use Rattle.ep_search.specs.Setting.{IsSetting};
+ghost use Rattle.ep_bounds.specs.Bounds.{IsBounds};
 ghost use Rattle.ep_search.specs.Progresses.{Keeps, CoversAll, spent};
 
-use crate::answer::{Answer, Bounds, Mode};
+use crate::answer::Answer;
 use crate::ask::{Met, enqueue};
 use crate::goal::count_unmet;
 use crate::parts::goal_parts;
 use crate::progress::Progress;
 use crate::run::run;
 use crate::setting::Setting;
+use ep_bounds::{Bounds, Mode};
 use ep_canon::{Canon, contract};
 use ep_guide::{Frontier, Guide};
 use ep_logic::{List, OutOfMemory, StateId, Steps};

@@ -1,17 +1,18 @@
 ghost use Rattle.std.specs.Prelude.{◌≡◌, ◌<◌, ◌≤◌, IfOk, length};
 ghost use Rattle.ep_theory.specs.Canonical.{IsCanonical};
-ghost use Rattle.ep_problem.specs.Plans.{Satisfies};
+ghost use Rattle.ep_theory.specs.Truth.{Satisfies};
 ghost use Rattle.ep_store.specs.Stored.{Has};
 ghost use Rattle.ep_search.specs.Allowed.{Allowed};
 ghost use Rattle.ep_search.specs.Kept.{Kept};
-ghost use Rattle.ep_search.specs.Limits.{IsSetting};
+ghost use Rattle.ep_search.specs.Setting.{IsSetting};
 ghost use Rattle.ep_search.specs.Sound.{Leads};
 ghost use Rattle.ep_search.specs.Progresses.{Keeps, CoversBut, TriedTo, LeadsToGoal};
 
-use crate::answer::{Answer, Mode};
+use crate::answer::Answer;
 use crate::ask::{Met, enqueue};
 use crate::progress::Progress;
 use crate::setting::Setting;
+use ep_bounds::Mode;
 use ep_canon::Canon;
 use ep_guide::Guide;
 use ep_logic::{ActionId, OutOfMemory, StateId};

@@ -1,7 +1,7 @@
 ghost use Rattle.std.specs.Prelude.{◌≡◌, ◌+◌, ◌<◌, ◌≤◌, IfOk, length, slice_index};
 ghost use Rattle.ep_store.specs.Stored.{Has};
 ghost use Rattle.ep_search.specs.Kept.{Kept};
-ghost use Rattle.ep_search.specs.Limits.{IsSetting};
+ghost use Rattle.ep_search.specs.Setting.{IsSetting};
 ghost use Rattle.ep_search.specs.Progresses.{Keeps, CoversBut, TriedTo, ExpandedTo};
 
 use crate::answer::Answer;

@@ -13,5 +13,5 @@ mod progress;
 mod run;
 mod setting;
 
-pub use answer::{Answer, Bounds, Mode};
+pub use answer::Answer;
 pub use bounded::search;

@@ -27,7 +27,8 @@ pub fn make<L: Ledger>(
     ensures makes { IfOk result (Makes s.now a.now) }
     ensures step { steps.new ≡ steps.old + 1 }
 {
-    let _valid = (s.agents(), a.agents());
+    s.known();
+    a.known();
     match product(alloc, s, a, LARGEST, steps) {
         Ok(state) => Ok(Some(state)),
         Err(UpdateError::Inapplicable { world: _ }) => Ok(None),

@@ -1,5 +1,6 @@
 ghost use Rattle.std.specs.Prelude.{◌≡◌, ◌<◌, ◌≤◌, ◌^◌, IfOk, IsTrue, length, map, sum};
 ghost use Rattle.std.specs.List.{list_all};
+ghost use Rattle.ep_logic.specs.declared.formula.TheConstants.{MOST_NODES};
 ghost use Rattle.ep_logic.specs.Nodes.{is_formed, node_count};
 ghost use Rattle.ep_search.specs.Conjuncts.{AreParts};
 
@@ -23,7 +24,7 @@ pub fn goal_parts(alloc: Global, goal: &Formula) -> Result<List<Formula>, OutOfM
 #[cycle(copies)]
 fn copy_part(alloc: Global, node: &Node) -> Result<Formula, OutOfMemory>
     requires formed { IsTrue (is_formed node.now) }
-    requires small { node_count node.now ≤ 131072 }
+    requires small { node_count node.now ≤ MOST_NODES }
     ensures { IfOk result (λ f. f ≡ node.now) }
 {
     match node {
@@ -43,7 +44,7 @@ fn copy_part(alloc: Global, node: &Node) -> Result<Formula, OutOfMemory>
 #[cycle(copies)]
 fn copy_parts(alloc: Global, parts: &List<Node>) -> Result<List<Formula>, OutOfMemory>
     requires formed { IsTrue (list_all is_formed parts.now) }
-    requires small { sum (map node_count parts.now) ≤ 131072 }
+    requires small { sum (map node_count parts.now) ≤ MOST_NODES }
     ensures value { IfOk result (λ copies. copies ≡ parts.now) }
     ensures few { length parts.now < 2 ^ 32 }
 {

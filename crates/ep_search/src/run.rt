@@ -1,13 +1,14 @@
 ghost use Rattle.std.specs.Prelude.{◌≡◌, ◌+◌, ◌*◌, ◌<◌, ◌≤◌, IfOk, length};
 ghost use Rattle.ep_search.specs.Allowed.{Allowed};
 ghost use Rattle.ep_search.specs.Kept.{Kept};
-ghost use Rattle.ep_search.specs.Limits.{IsSetting};
+ghost use Rattle.ep_search.specs.Setting.{IsSetting};
 ghost use Rattle.ep_search.specs.Progresses.{Keeps, CoversAll, spent};
 
-use crate::answer::{Answer, Mode};
+use crate::answer::Answer;
 use crate::expand::expand;
 use crate::progress::Progress;
 use crate::setting::Setting;
+use ep_bounds::Mode;
 use ep_guide::Guide;
 use ep_logic::{OutOfMemory, Steps};
 use ep_problem::Problem;

@@ -1,4 +1,4 @@
-use crate::answer::{Bounds, Mode};
+use ep_bounds::{Bounds, Mode};
 use ep_logic::{Formula, List};
 
 // What a search is set to, and the parts of the goal, which a guide is told of.

@@ -4,10 +4,11 @@ ghost use Rattle.std.specs.Prelude.{◌≡◌, ◌<◌};
 
 use crate::own_guides::Deepest;
 use crate::tasks::{COIN, LOOK, SEVENTH_STATE, TRUE_AT_ONCE, Task, WAYS, WIDE_STATE, problem};
-use ep_guide::{ByDepth, ByUnmet, Guide};
+use ep_bounds::{Bounds, Mode};
+use ep_guide::{ByDepth, ByUnmet, Contrary, Flat, Guide, Loud, Mixer};
 use ep_logic::{ActionId, OutOfMemory, Steps};
 use ep_problem::Problem;
-use ep_search::{Answer, Bounds, Mode, search};
+use ep_search::{Answer, search};
 use std::alloc::Global;
 use std::marker::Brand;
 use std::process::Abort;
@@ -105,6 +106,20 @@ static DEEPEST_FIRST: [Row; 4] = [
     ),
 ];
 
+// What no guide changes.
+static BY_ANY: [Row; 4] = [
+    (&COIN, (8, 1000, 256), Mode::Prove, "shortest", &[0]),
+    (&LOOK, (1000, 2, 256), Mode::Prove, "none", &[]),
+    (
+        &WAYS,
+        (8, 1000, 256),
+        Mode::Prove,
+        "shortest",
+        &[3, 4, 5, 6],
+    ),
+    (&WAYS, (3, 1000, 256), Mode::Prove, "none", &[]),
+];
+
 static BY_UNMET: [Row; 1] = [(&COIN, (8, 1000, 256), Mode::First, "found", &[0])];
 
 fn check_answer(rt: &impl Abort, answer: &Answer, kind: &str, wanted: &[u32]) {
@@ -161,4 +176,18 @@ fn a_search_deepest_first_still_proves_shortest(rt: HostRuntime) -> Result<(), F
 fn a_search_by_unmet_parts_finds_a_plan(rt: HostRuntime) -> Result<(), Fail> {
     let mut guide: Box<dyn Guide> = Box::new(rt.alloc(), ByUnmet::new())?;
     check(&rt, rt.alloc(), &mut guide, &BY_UNMET)
+}
+
+#[test]
+fn a_search_is_right_whatever_its_guide_scores(rt: HostRuntime) -> Result<(), Fail> {
+    let mut guides: [Box<dyn Guide>; 4] = [
+        Box::new(rt.alloc(), Contrary::new())?,
+        Box::new(rt.alloc(), Flat::new())?,
+        Box::new(rt.alloc(), Loud::new())?,
+        Box::new(rt.alloc(), Mixer::new())?,
+    ];
+    for guide in &mut guides {
+        check(&rt, rt.alloc(), guide, &BY_ANY)?;
+    }
+    Ok(())
 }

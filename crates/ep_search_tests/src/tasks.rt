@@ -83,6 +83,17 @@ pub const WAYS: Task = Task {
     goal: Goal::Atom(6),
 };
 
+// Two states of depth 1, of which the first leads to g and the second to another state.
+pub const FORK: Task = Task {
+    actions: &[
+        Act::Move(0, 1),
+        Act::Move(0, 3),
+        Act::Move(1, 6),
+        Act::Move(3, 4),
+    ],
+    ..WAYS
+};
+
 // A further action makes a seventh state from b1.
 pub const SEVENTH_STATE: Task = Task {
     actions: &[

@@ -2,9 +2,9 @@
 
 use crate::own_guides::{Record, Recorder};
 use crate::searches::answer;
-use crate::tasks::{COIN, Task, WAYS};
+use crate::tasks::{COIN, FORK, Task, WAYS};
+use ep_bounds::{Bounds, Mode};
 use ep_guide::{Guide, View};
-use ep_search::{Bounds, Mode};
 use std::alloc::Global;
 use std::cell::RefCell;
 use std::process::Abort;
@@ -92,4 +92,11 @@ fn a_guide_is_told_each_state_and_each_goal(rt: HostRuntime) -> Result<(), Fail>
     check(&rt, rt.alloc(), &WAYS, false, &shallowest)?;
     let of_coin = [coin(0, 1), Record::Met(1), coin(1, 2)];
     check(&rt, rt.alloc(), &COIN, false, &of_coin)
+}
+
+// A plan of two actions is known before the second state of depth 1 has its turn: what that leads to is of no use.
+#[test]
+fn no_state_is_expanded_that_leads_to_no_shorter_plan(rt: HostRuntime) -> Result<(), Fail> {
+    let of_fork = [lone(0), lone(1), lone(1), Record::Met(2)];
+    check(&rt, rt.alloc(), &FORK, false, &of_fork)
 }

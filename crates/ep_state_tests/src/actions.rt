@@ -202,6 +202,56 @@ fn sixteen_events_are_built(rt: HostRuntime) -> Result<(), Fail> {
     Ok(())
 }
 
+const LOOPS: [Triple; 6] = [
+    (0, 0, 0),
+    (0, 1, 1),
+    (0, 2, 2),
+    (1, 0, 0),
+    (1, 1, 1),
+    (1, 2, 2),
+];
+
+// Asserts whether three events with these links, behind so many of the loops, have equivalences.
+fn check_s5(
+    rt: &impl Abort,
+    alloc: Global,
+    loops: usize,
+    links: &[Triple],
+    is_s5: bool,
+) -> Result<(), Fail> {
+    let no: &[u32] = &[];
+    let mut all = Vec::new(alloc);
+    for link in LOOPS.iter().take(loops) {
+        all.push(*link)?;
+    }
+    all.extend_from_slice(links)?;
+    let action = build(rt, alloc, &[no; 3], all.as_slice(), &[0])?;
+    assert_eq!(rt; action.is_s5(), is_s5);
+    Ok(())
+}
+
+#[test]
+fn equivalences_of_events(rt: HostRuntime) -> Result<(), Fail> {
+    let one_way = [(1, 0, 1)];
+    let both_ways = [(1, 0, 1), (1, 1, 0)];
+    let open_chain = [(0, 0, 1), (0, 1, 0), (0, 1, 2), (0, 2, 1)];
+    let all_pairs = [
+        (0, 0, 1),
+        (0, 1, 0),
+        (0, 1, 2),
+        (0, 2, 1),
+        (0, 0, 2),
+        (0, 2, 0),
+    ];
+    check_s5(&rt, rt.alloc(), 6, &[], true)?;
+    check_s5(&rt, rt.alloc(), 5, &[], false)?;
+    check_s5(&rt, rt.alloc(), 6, &one_way, false)?;
+    check_s5(&rt, rt.alloc(), 6, &both_ways, true)?;
+    check_s5(&rt, rt.alloc(), 6, &open_chain, false)?;
+    check_s5(&rt, rt.alloc(), 6, &all_pairs, true)?;
+    Ok(())
+}
+
 fn heads() -> Formula {
     Formula::atom(AtomId { n: 3 })
 }

@@ -8,6 +8,10 @@ mod formulas;
 #[cfg(test)]
 mod made;
 #[cfg(test)]
+mod rows;
+#[cfg(test)]
+mod sizes;
+#[cfg(test)]
 mod states;
 #[cfg(test)]
 mod truths;

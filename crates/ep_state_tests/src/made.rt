@@ -20,19 +20,10 @@ pub struct Given<'a> {
     pub designated: &'a [u32],
 }
 
-/// A row of this width.
-pub fn row(alloc: Global, width: u32, trues: &[u32]) -> Result<Bits, OutOfMemory> {
-    let mut row = Bits::zeros(alloc, width)?;
-    for p in 0..width {
-        row.set(p, trues.contains(&p));
-    }
-    Ok(row)
-}
-
 fn rows(alloc: Global, width: u32, worlds: &[&[u32]]) -> Result<List<Bits>, OutOfMemory> {
     let mut rows = List::new(alloc);
     for trues in worlds {
-        rows.push(row(alloc, width, trues)?)?;
+        rows.push(Bits::from_places(alloc, width, trues)?)?;
     }
     Ok(rows)
 }

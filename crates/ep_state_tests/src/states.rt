@@ -1,8 +1,8 @@
 // States from their parts, and what they show.
 
-use crate::made::{Given, Triple, built, links, row, state, worlds};
+use crate::made::{Given, Triple, built, links, state, worlds};
 use ep_kripke::{State, StateError, StateParts};
-use ep_logic::{AgentId, AtomId, List, OutOfMemory, WorldId};
+use ep_logic::{AgentId, AtomId, Bits, List, OutOfMemory, WorldId};
 use std::alloc::{AllocError, Global};
 use std::process::Abort;
 use std::test::Fail;
@@ -19,7 +19,7 @@ fn parts(
 ) -> Result<StateParts, OutOfMemory> {
     let mut truth = List::new(alloc);
     for (width, trues) in given {
-        truth.push(row(alloc, *width, trues)?)?;
+        truth.push(Bits::from_places(alloc, *width, trues)?)?;
     }
     Ok(StateParts {
         agents: 1,
@@ -93,8 +93,9 @@ fn check_links(rt: &impl Abort, s: &State) {
 
 fn check_targets(rt: &impl Abort, alloc: Global, s: &State) -> Result<(), OutOfMemory> {
     assert_eq!(rt; (s.worlds(), s.agents()), (3, 2));
-    let targets = s.targets(AgentId { n: 0 }, WorldId { n: 2 });
-    assert_eq!(rt; targets, [0].as_slice());
+    let mut targets = Vec::new(alloc);
+    s.read_targets(AgentId { n: 0 }, WorldId { n: 2 }, &mut targets)?;
+    assert_eq!(rt; targets.as_slice(), [0].as_slice());
     let after = s.successors(alloc, AgentId { n: 1 }, WorldId { n: 1 })?;
     let all = [WorldId { n: 0 }, WorldId { n: 1 }, WorldId { n: 2 }];
     assert_eq!(rt; after.as_slice(), all.as_slice());
@@ -170,13 +171,22 @@ fn ring(rt: &impl Abort, alloc: Global, count: u32) -> Result<State, StateError>
     state(rt, alloc, &given)
 }
 
-fn check_ring(rt: &impl Abort, s: &State, count: u32, targets: &[u32]) {
+fn check_ring(
+    rt: &impl Abort,
+    alloc: Global,
+    s: &State,
+    count: u32,
+    targets: &[u32],
+) -> Result<(), OutOfMemory> {
     check_counts(rt, s, (MOST_WORLDS, 1, 0, u64::from(count)), &[0]);
     assert_eq!(rt; (s.worlds(), s.agents()), (MOST_WORLDS, 1));
     let ann = AgentId { n: 0 };
-    assert_eq!(rt; s.targets(ann, WorldId { n: 65_535 }), targets);
+    let mut last = Vec::new(alloc);
+    s.read_targets(ann, WorldId { n: 65_535 }, &mut last)?;
+    assert_eq!(rt; last.as_slice(), targets);
     assert!(rt; s.linked(ann, WorldId { n: 7 }, WorldId { n: 8 }));
     assert!(rt; !s.linked(ann, WorldId { n: 8 }, WorldId { n: 7 }));
+    Ok(())
 }
 
 #[test]
@@ -190,7 +200,7 @@ fn a_ring_of_the_most_worlds(rt: HostRuntime) -> Result<(), Fail> {
     ];
     for (count, targets) in last {
         let s = ring(&rt, rt.alloc(), count)?;
-        check_ring(&rt, &s, count, targets);
+        check_ring(&rt, rt.alloc(), &s, count, targets)?;
     }
     Ok(())
 }

@@ -11,7 +11,7 @@ use Rattle.std.proofs.lemmas.Option.{same_Some, none-some, slice_get-get_or}
 use Rattle.std.proofs.lemmas.Slice.Eq.{bytes_eq-Decides}
 use Rattle.ep_theory.specs.Kripke.{Kripke, IsState}
 use Rattle.ep_canon.specs.Bytes.{bytes_of}
-use Rattle.ep_canon.proofs.BytesLemmas.{same_bytes}
+use Rattle.ep_canon.proofs.CallerLemmas.{same_bytes}
 use Rattle.ep_store.specs.declared.entry.Entry.{Entry}
 use Rattle.ep_store.specs.Stored.{Has, Lacks}
 use Rattle.ep_store.specs.Inside.{IsKeyed, is_key}

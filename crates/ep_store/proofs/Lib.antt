@@ -3,3 +3,4 @@ pub mod PathLemmas
 pub mod KeyLemmas
 pub mod AddLemmas
 pub mod CaseLemmas
+pub mod CallerLemmas

@@ -5,6 +5,7 @@ ghost use Rattle.std.specs.Bool.{MatchBool};
 
 use ep_canon::Canon;
 use ep_logic::{ActionId, StateId};
+use std::fmt;
 
 /// A state, the depth at which it was met, and the entry and the action that it was made by.
 #[derive(Drop)]
@@ -24,12 +25,23 @@ pub enum Added {
 }
 
 /// A state that was not stored.
-#[derive(Drop)]
+#[derive(Debug, Drop)]
 pub enum StoreError {
     /// The store has as many states as it may have, and this is none of them.
     Full(Canon),
     OutOfMemory(Canon),
 }
+
+impl fmt::Display for StoreError {
+    fn fmt<W: fmt::Write>(&self, f: &mut fmt::Formatter<W>) -> fmt::Result {
+        match self {
+            StoreError::Full(_) => write!(f, "the store is full"),
+            StoreError::OutOfMemory(_) => write!(f, "out of memory"),
+        }
+    }
+}
+
+impl std::error::Error for StoreError {}
 
 // Takes the depth and the parent, if the depth is less. Whether it is.
 pub(crate) fn improve(entry: &mut Entry, depth: u32, from: Option<(StateId, ActionId)>) -> bool

@@ -18,21 +18,16 @@ use Rattle.ep_tree.specs.Bare.{bare_param, bare_set, bare_event, bare_body, bare
 use Rattle.ep_tree.specs.Formed.{IsFormedSet, IsFormedEvent, IsFormedBody, IsFormedSignature, IsFormedSchema}
 use Rattle.ep_tree.specs.Grammar.{Grammar}
 use Rattle.ep_tree.specs.Marks.{fixed, texts}
-use Rattle.ep_syntax.specs.Reading.{Token, seq, begins, heads, each}
+use Rattle.ep_reader.specs.Reading.{Token, seq, begins, heads, each}
 use Rattle.ep_tree.specs.Terminals.{is}
 use Rattle.ep_tree.specs.Spelling as spell
 use Rattle.ep_tree.specs.Terminals.{text_of}
-use Rattle.ep_syntax.proofs.MarkLists.{Agree}
-use Rattle.ep_syntax.proofs.Laws.{Follow, IsSame, both, Made}
-use Rattle.ep_syntax.proofs.ListLaws.{Agree-heads, each_of, each_part, some_each_of, some_each_part}
-use Rattle.ep_syntax.proofs.Readers.{Reads, Part, Any, Next, pair, then, made_by, made_all, either, less, next_lacks, plain, plain_reads, plain_part, name_part, some_name}
 use Rattle.ep_syntax.specs.FormulaReading.{params}
 use Rattle.ep_syntax.specs.TaskReading.{set, sets, event, private_of, private_message, sense_of, sensing, assign_of, assignment, events_of, events, body, distinct, Signature, signature, schema}
-use Rattle.ep_syntax.proofs.AtomLaws.{within_of, within_part, atom_part, some_atom, groups_one, group_part, params_of, params_part, made-id}
-use Rattle.ep_syntax.proofs.DeclarationLaws.{braced_of, braced_part, named_entries_part}
+use Rattle.ep_syntax.proofs.AtomLaws.{atom_part, some_atom, groups_one, group_part, params_of, params_part}
 use Rattle.ep_syntax.proofs.InitialLaws.{outer_one, outer_part, before, statement_part, links_of, links_part, designated_of, designated_part}
 use Rattle.ep_syntax.proofs.Layers.{some_formula}
-use Rattle.ep_syntax.proofs.Sources.{both_true}
+use Rattle.ep_reader.proofs.CallerLemmas.{Agree, Follow, IsSame, both, Made, Agree-heads, each_of, each_part, some_each_of, some_each_part, Reads, Part, Any, Next, pair, then, made_by, made_all, either, less, next_lacks, plain, plain_reads, plain_part, name_part, some_name, within_of, within_part, made-id, braced_of, braced_part, named_entries_part, both_true}
 
 -- ---- sets and events
 

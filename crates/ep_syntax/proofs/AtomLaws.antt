@@ -1,8 +1,7 @@
 -- The laws of the readers of atoms, groups and parameters.
-use Rattle.std.proofs.Common.{◌≡◌, ℕ, ◌≤◌, Bool, true, false, ◌&&◌, IfSome, List, [], ◌∷◌, ◌++◌, Option, None, Ok, Err, refl, sym, ◌∙◌, subst, arith}
-use Rattle.std.specs.List.{list_all}
+use Rattle.std.proofs.Common.{◌≡◌, ℕ, ◌≤◌, true, false, IfSome, List, [], ◌∷◌, ◌++◌, Option, None, refl, sym, ◌∙◌, subst, arith}
+use Rattle.std.specs.List.{AllByRecursion}
 use Rattle.std.proofs.lemmas.Bool.{false≢true}
-use Rattle.ep_tree.specs.declared.terminal.Terminal.{Terminal}
 use Rattle.ep_tree.specs.declared.terminal.Terminal.TheVariants as the
 use Rattle.ep_tree.specs.declared.tree.Name.{Name}
 use Rattle.ep_tree.specs.declared.tree.AtomTree.{AtomTree}
@@ -10,49 +9,20 @@ use Rattle.ep_tree.specs.declared.tree.GroupTree.{GroupTree}
 use Rattle.ep_tree.specs.declared.tree.GroupTree.TheVariants as group_tree
 use Rattle.ep_tree.specs.declared.tree.ParamTree.{ParamTree}
 use Rattle.ep_tree.specs.Bare.{bare_names, bare_atom, bare_group, bare_param}
-use Rattle.ep_tree.specs.Formed.{Each, OneOrMore, formed_name, IsFormedName, IsFormedAtom, IsFormedGroup, IsFormedParam}
+use Rattle.ep_tree.specs.Formed.{OneOrMore, formed_name, IsFormedName, IsFormedAtom, IsFormedGroup, IsFormedParam}
 use Rattle.ep_syntax.specs.FormulaReading.{arguments, atom, group, members_of, param, params}
 use Rattle.ep_tree.specs.Grammar.{Grammar}
-use Rattle.ep_tree.specs.Marks.{fixed, texts}
-use Rattle.ep_syntax.specs.Reading.{Token, Read, Reader, made, begins, name, listed, any_listed, within}
+use Rattle.ep_tree.specs.Marks.{texts}
+use Rattle.ep_reader.specs.Reading.{Token, Reader, begins, name, listed, any_listed, within}
 use Rattle.ep_tree.specs.Terminals.{is}
 use Rattle.ep_tree.specs.Spelling as spell
-use Rattle.ep_tree.specs.Terminals.{text_of, is_name}
-use Rattle.ep_syntax.proofs.MarkLists.{Agree}
-use Rattle.ep_syntax.proofs.Laws.{Follow, IsSame, both, Made}
-use Rattle.ep_syntax.proofs.Readers.{Reads, Part, Any, Lacks, Next, pair, then, made_by, made_all, either, less_part, is-text_of, next_lacks, plain, plain_reads, plain_part, placed, placed_reads, title_part, names_one, name_part, some_name}
-use Rattle.ep_syntax.proofs.ListLaws.{Agree-heads, StartsWith, listed_of, listed_part, any_listed_of, any_listed_part}
-use Rattle.ep_syntax.proofs.Sources.{both_true}
-
--- ---- between two terminals
-
-abbrev pub within_of : {A : Type 0} → Terminal → Grammar A → Terminal → Grammar A
-within_of left g right = record { marks = λ a. fixed left ∷ (g.marks a ++ fixed right ∷ []); IsFormed = g.IsFormed; bare = g.bare }
-
-pub within_reads : {A : Type 0} {g : Grammar A} {F : Follow} {item : Reader A} (left right : Terminal) → Part g (Next right) item → (n : ℕ) (ts : List Token)
-    → Reads (within_of left g right) F n ts (within left item right n ts)
-within_reads {A} {g} {F} {item} left right p n ts =
-    made_all (record { marks = λ _ _. refl; formed = λ _ f. f.0.1; bare = λ _. refl }) (λ b f. record { from = ((0, b), 0); formed = ((tt, f), tt); is = refl })
-    (pair (then (plain_reads left n ts) p) (plain_part right) (λ _ _ _ _. is-text_of right))
-
-pub within_part : {A : Type 0} {g : Grammar A} {F : Follow} {item : Reader A} (left right : Terminal) → Part g (Next right) item → Part (within_of left g right) F (within left item right)
-within_part left right p = record { reads = within_reads left right p; value = p.value; formed = p.formed }
-
--- ---- lists of names
-
-pub names_part : (right : Terminal) → is the.Comma (text_of right) ≡ false → Part (listed_of the.Comma names_one) (Next right) (listed the.Comma name)
-names_part right e = listed_part the.Comma names_one Any (Next right) name name_part (λ _. tt) (λ _ _. tt) (next_lacks right (is the.Comma) e)
-
-pub names_start : StartsWith is_name names_one
-names_start a more f = f
-
-pub any_names_part : (right : Terminal) → is the.Comma (text_of right) ≡ false → is_name (text_of right) ≡ false → Part (any_listed_of the.Comma names_one) (Next right) (any_listed is_name the.Comma name)
-any_names_part right e d = any_listed_part the.Comma names_one Any (Next right) name name_part (λ _. tt) (λ _ _. tt) (next_lacks right (is the.Comma) e) is_name names_start (next_lacks right is_name d)
+use Rattle.ep_tree.specs.Terminals.{is_name}
+use Rattle.ep_reader.proofs.CallerLemmas.{Agree, Follow, IsSame, both, Made, Reads, Part, Any, Lacks, Next, pair, then, made_by, made_all, either, less_part, next_lacks, plain, plain_part, placed, placed_reads, title_part, names_one, name_part, some_name, Agree-heads, StartsWith, listed_of, listed_part, any_listed_of, any_listed_part, both_true, and_true, any_names_part, each-list_all, list_all-each, made-id, names_part, within_of, within_reads}
 
 -- ---- names in parentheses, or nothing
 
 abbrev pub arguments_of : Grammar (List Name)
-arguments_of = record { marks = spell.arguments; IsFormed = Each IsFormedName; bare = bare_names }
+arguments_of = record { marks = spell.arguments; IsFormed = AllByRecursion IsFormedName; bare = bare_names }
 
 abbrev pub NotOpen : Follow
 NotOpen = Lacks (is the.OpenParen)
@@ -61,22 +31,18 @@ arguments_none : (ts : List Token) → begins the.OpenParen ts ≡ false → (b 
 arguments_none ts e [] more a = record { bare = refl; outlines = refl }
 arguments_none ts e (x ∷ xs) more a = absurd (false≢true (sym e ∙ Agree-heads (is the.OpenParen) ts _ a))
 
-arguments_back : (ts : List Token) → begins the.OpenParen ts ≡ true → (b : List Name) (more : List Token) → Each IsFormedName b → NotOpen more → Agree 1 ts (texts (spell.arguments b) ++ more)
+arguments_back : (ts : List Token) → begins the.OpenParen ts ≡ true → (b : List Name) (more : List Token) → AllByRecursion IsFormedName b → NotOpen more → Agree 1 ts (texts (spell.arguments b) ++ more)
     → Made (within_of the.OpenParen (listed_of the.Comma names_one) the.CloseParen) (λ ns. ns) b
 arguments_back ts e [] more f s a = absurd (false≢true (sym s ∙ sym (Agree-heads (is the.OpenParen) ts more a) ∙ e))
 arguments_back ts e (x ∷ xs) more f s a = record { from = x ∷ xs; formed = f; is = refl }
 
-each_of_some : {A : Type 0} (P : A → Type 0) (xs : List A) → OneOrMore P xs → Each P xs
+each_of_some : {A : Type 0} (P : A → Type 0) (xs : List A) → OneOrMore P xs → AllByRecursion P xs
 each_of_some P [] f = absurd f
 each_of_some P (x ∷ xs) f = f
 
 arguments_marks : (ns : List Name) → OneOrMore IsFormedName ns → spell.arguments ns ≡ (within_of the.OpenParen (listed_of the.Comma names_one) the.CloseParen).marks ns
 arguments_marks [] f = absurd f
 arguments_marks (x ∷ xs) f = refl
-
-pub made-id : {A : Type 0} (r : Read A) → made (λ a. a) r ≡ r
-made-id (Ok x) = refl
-made-id (Err e) = refl
 
 pub arguments_part : Part arguments_of NotOpen arguments
 unfolding arguments
@@ -92,17 +58,6 @@ arguments_part = record {
 }
 
 -- ---- atoms
-
-pub each-list_all : {A : Type 0} (p : A → Bool) (xs : List A) → list_all p xs ≡ true → Each (λ x. p x ≡ true) xs
-each-list_all p [] e = tt
-each-list_all p (x ∷ xs) e = ((both_true _ _ e).0, each-list_all p xs (both_true _ _ e).1)
-
-pub list_all-each : {A : Type 0} (p : A → Bool) (xs : List A) → Each (λ x. p x ≡ true) xs → list_all p xs ≡ true
-list_all-each p [] f = refl
-list_all-each p (x ∷ xs) f = rw (f.0, list_all-each p xs f.1) refl
-
-pub and_true : (a b : Bool) → a ≡ true → b ≡ true → (a && b) ≡ true
-and_true a b e f = rw (e, f) refl
 
 abbrev pub atoms_at : Option ℕ → Grammar AtomTree
 atoms_at nesting = record { marks = spell.atom nesting; IsFormed = IsFormedAtom; bare = bare_atom }

@@ -1,84 +1,22 @@
 -- The laws of the readers of types, objects and fluents.
-use Rattle.std.proofs.Common.{◌≡◌, ℕ, suc, true, false, cond, IfSome, List, [], ◌∷◌, ◌++◌, length, Option, Some, None, Ok, refl, sym, ap, ◌∙◌, subst, arith, append_assoc}
-use Rattle.std.proofs.lemmas.Bool.{false≢true}
-use Rattle.ep_tree.specs.declared.terminal.Terminal.{Terminal}
+use Rattle.std.proofs.Common.{◌≡◌, true, IfSome, List, [], ◌∷◌, ◌++◌, Option, refl, append_assoc}
+use Rattle.std.specs.List.{AllByRecursion}
 use Rattle.ep_tree.specs.declared.terminal.Terminal.TheVariants as the
 use Rattle.ep_tree.specs.declared.tree.Name.{Name}
 use Rattle.ep_tree.specs.declared.tree.TypeTree.{TypeTree}
 use Rattle.ep_tree.specs.declared.tree.ObjectTree.{ObjectTree}
 use Rattle.ep_tree.specs.declared.tree.FluentTree.{FluentTree}
 use Rattle.ep_tree.specs.Bare.{bare_type, bare_types, bare_object, bare_fluent}
-use Rattle.ep_tree.specs.Formed.{Each, OneOrMore, IsFormedName, IsFormedType, IsFormedObject, IsFormedFluent}
+use Rattle.ep_tree.specs.Formed.{OneOrMore, IsFormedName, IsFormedType, IsFormedObject, IsFormedFluent}
 use Rattle.ep_tree.specs.Grammar.{Grammar}
 use Rattle.ep_tree.specs.Marks.{Mark, fixed, named, texts}
-use Rattle.ep_syntax.specs.Reading.{Token, Reader, made, begins, heads, each, behind_key, braced}
+use Rattle.ep_reader.specs.Reading.{Token, heads, each, braced}
 use Rattle.ep_tree.specs.Terminals.{is}
 use Rattle.ep_tree.specs.Spelling as spell
 use Rattle.ep_tree.specs.Terminals.{is_name}
-use Rattle.ep_syntax.proofs.MarkLists.{Agree}
-use Rattle.ep_syntax.proofs.Laws.{Follow, IsSame, Made}
-use Rattle.ep_syntax.proofs.ListLaws.{Agree-heads, StartsWith, each_of, each_part, behind_of, keyed_part}
-use Rattle.ep_syntax.proofs.Readers.{Reads, Part, Any, Lacks, Next, pair, then, made_by, made_all, either, less, is-text_of, next_lacks, plain_part, name_part, some_name}
 use Rattle.ep_syntax.specs.TaskReading.{type_entry, types, object_entry, objects, fluent_entry, fluents}
-use Rattle.ep_syntax.proofs.AtomLaws.{within_of, within_part, names_part, arguments_part}
-
--- ---- between braces
-
-abbrev pub braced_of : {A : Type 0} → Grammar A → Grammar A
-braced_of g = within_of the.OpenBrace g the.CloseBrace
-
-pub braced_part : {A : Type 0} {g : Grammar A} {F : Follow} {item : Reader A} → Part g (Next the.CloseBrace) item → Part (braced_of g) F (braced item)
-braced_part p = within_part the.OpenBrace the.CloseBrace p
-
--- '{' { item } '}', where an item begins with a name
-pub named_entries_part : {A : Type 0} {g : Grammar A} {F : Follow} {item : Reader A} → Part g Any item → StartsWith is_name g → Part (braced_of (each_of g)) F (braced (each is_name item))
-named_entries_part {A} {g} {F} {item} p starts =
-    braced_part (each_part is_name g Any (Next the.CloseBrace) item p starts (λ _ _ _. tt) (λ _ _. tt) (next_lacks the.CloseBrace is_name refl))
-
--- ---- a part that may be left out
-
--- h spells nothing as nothing, and something behind the terminal
-pub record IsOptional {A : Type 0} (t : Terminal) (g : Grammar A) (h : Grammar (Option A)) : Type 0 where
-  pub nothing : h.marks None ≡ []
-  pub something : (a : A) → h.marks (Some a) ≡ fixed t ∷ g.marks a
-  pub none_formed : h.IsFormed None
-  pub some_formed : (a : A) → g.IsFormed a → h.IsFormed (Some a)
-  pub formed_some : (a : A) → h.IsFormed (Some a) → g.IsFormed a
-  pub none_bare : h.bare None ≡ None
-  pub some_bare : (a : A) → h.bare (Some a) ≡ Some (g.bare a)
-
-module _ {A : Type 0} (t : Terminal) (g : Grammar A) (h : Grammar (Option A)) (o : IsOptional t g h) (F : Follow) (item : Reader A) (p : Part g Any item)
-    (stops : (ts : List Token) → F ts → Lacks (is t) ts) where
-  optional_none : (ts : List Token) → begins t ts ≡ false → (b : Option A) (more : List Token) → Agree 1 ts (texts (h.marks b) ++ more) → IsSame h None b
-  optional_none ts e None more a = record { bare = refl; outlines = refl }
-  optional_none ts e (Some x) more a =
-      absurd (false≢true (sym e ∙ Agree-heads (is t) ts _ (subst (λ z. Agree 1 ts (texts z ++ more)) (o.something x) a) ∙ is-text_of t))
-
-  optional_back : (ts : List Token) → begins t ts ≡ true → (b : Option A) (more : List Token) → h.IsFormed b → F more → Agree 1 ts (texts (h.marks b) ++ more) → Made (behind_of t g) Some b
-  optional_back ts e None more f s a =
-      absurd (false≢true (sym (stops more s) ∙ sym (Agree-heads (is t) ts more (subst (λ z. Agree 1 ts (texts z ++ more)) o.nothing a)) ∙ e))
-  optional_back ts e (Some x) more f s a = record { from = x; formed = o.formed_some x f; is = refl }
-
-  none_reads : (n : ℕ) (ts : List Token) → begins t ts ≡ false → Reads h F n ts (Ok (None, n, ts))
-  none_reads n ts e = record {
-    holds = record {
-      text = rw o.nothing refl;
-      at = rw o.nothing (omega arith);
-      placed = rw o.nothing tt;
-      formed = o.none_formed;
-      shallow = rw o.nothing tt;
-      only = λ b more f s a. optional_none ts e b more (subst (λ k. Agree (suc k) ts (texts (h.marks b) ++ more)) (ap length o.nothing) a);
-    };
-  }
-
-  pub optional_part : Part h F (λ n ts. cond (begins t ts) (made Some (behind_key t item n ts)) (Ok (None, n, ts)))
-  optional_part = record {
-    reads = λ n ts. either (begins t ts)
-        (λ e. made_by (record { marks = λ a _. o.something a; formed = o.some_formed; bare = o.some_bare }) (less ((keyed_part t p).reads n ts)) (optional_back ts e))
-        (none_reads n ts);
-    value = None;
-    formed = o.none_formed;
-  }
+use Rattle.ep_syntax.proofs.AtomLaws.{arguments_part}
+use Rattle.ep_reader.proofs.CallerLemmas.{each_of, behind_of, keyed_part, Part, Any, Next, pair, then, made_all, next_lacks, plain_part, name_part, some_name, names_part, IsOptional, braced_of, named_entries_part, optional_part}
 
 -- ---- types
 
@@ -96,7 +34,7 @@ type_part = record {
 }
 
 abbrev pub types_of : Grammar (Option (List TypeTree))
-types_of = record { marks = spell.types; IsFormed = λ o. IfSome o (Each IsFormedType); bare = bare_types }
+types_of = record { marks = spell.types; IsFormed = λ o. IfSome o (AllByRecursion IsFormedType); bare = bare_types }
 
 types_optional : IsOptional the.Types (braced_of (each_of types_one)) types_of
 types_optional = record { nothing = refl; something = λ _. refl; none_formed = tt; some_formed = λ _ f. f; formed_some = λ _ f. f; none_bare = refl; some_bare = λ _. refl }

@@ -13,20 +13,16 @@ use Rattle.ep_tree.specs.declared.tree.FormulaTree.TheVariants as tree
 use Rattle.ep_tree.specs.Formed.{formed_formula, formed_params, formed_parts, IsFormedFormula}
 use Rattle.ep_syntax.specs.FormulaReading.{is_equality, follows, deep_name, opened, starter_of, too_deep, inside}
 use Rattle.ep_tree.specs.Marks.{fixed, texts, nesting_at}
-use Rattle.ep_syntax.specs.Reading.{Token, Syntax, TooDeep, Reader, begins, heads, name_begins}
+use Rattle.ep_reader.specs.Reading.{Token, Syntax, TooDeep, Reader, begins, heads, name_begins}
 use Rattle.ep_tree.specs.Terminals.{is}
 use Rattle.ep_tree.specs.Spelling.{behind, between, formula_at}
 use Rattle.ep_tree.specs.Spelling as spell
 use Rattle.ep_tree.specs.Terminals.{text_of, is_name}
-use Rattle.ep_syntax.proofs.AtomLaws.{NotOpen, some_param, and_true}
-use Rattle.ep_syntax.proofs.Laws.{Follow}
+use Rattle.ep_syntax.proofs.AtomLaws.{NotOpen, some_param}
 use Rattle.ep_syntax.proofs.Layers.{Layer, formulas_at, first_text, first_mark, rest_marks, rest_texts, marks-out, texts-out, formed-out, formed-roll, lead, lead-first, is_lead, starter-text, some_formula, no_reads, end_reads}
-use Rattle.ep_syntax.proofs.ListLaws.{Agree-heads}
-use Rattle.ep_syntax.proofs.MarkLists.{Agree, IsShallowTo, Opens, Opens-more}
 use Rattle.ep_syntax.proofs.ParenLaws.{followed, equality_reads, inside_other, inside_name}
-use Rattle.ep_syntax.proofs.Readers.{Reads, Part, Any, either, is-true, some_name}
-use Rattle.ep_syntax.proofs.Sources.{both_true}
 use Rattle.ep_syntax.proofs.TreeEquations as eq
+use Rattle.ep_reader.proofs.CallerLemmas.{and_true, Follow, Agree-heads, Agree, IsShallowTo, Opens, Opens-more, Reads, Part, Any, either, is-true, some_name, both_true}
 
 -- ---- the first token of a formula has its nesting
 

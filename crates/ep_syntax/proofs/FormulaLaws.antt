@@ -9,23 +9,20 @@ use Rattle.ep_tree.specs.declared.tree.FormulaTree.{FormulaTree, roll-FormulaTre
 use Rattle.ep_tree.specs.declared.tree.FormulaTree.TheOpen as layer
 use Rattle.ep_tree.specs.declared.tree.FormulaTree.TheVariants as tree
 use Rattle.ep_tree.specs.Formed.{OneOrMore, formed_formula, formed_param, formed_params, IsFormedFormula, IsFormedParam}
-use Rattle.ep_syntax.specs.FormulaReading.{not_of, knows_of, common_of, forall_of, exists_of, starter_of, by_terminal, by_token, formula, atom}
+use Rattle.ep_syntax.specs.FormulaReading.{not_of, knows_of, common_of, forall_of, exists_of, starter_of, by_terminal, by_token, formula, outer_formula, atom}
 use Rattle.ep_tree.specs.Marks.{Mark, fixed, opening}
-use Rattle.ep_syntax.specs.Reading.{Token, Reader, made, whole}
+use Rattle.ep_reader.specs.Reading.{Token, Reader, made, whole}
 use Rattle.ep_tree.specs.Spelling.{formula_at}
 use Rattle.ep_tree.specs.Spelling as spell
 use Rattle.ep_tree.specs.Terminals.{is_name}
-use Rattle.ep_syntax.proofs.AtomLaws.{NotOpen, atoms_at, atom_reads, groups_one, group_part, params_of, params_part, each-list_all, list_all-each, and_true}
-use Rattle.ep_syntax.proofs.Laws.{Outcome, both, Made}
+use Rattle.ep_syntax.proofs.AtomLaws.{NotOpen, atoms_at, atom_reads, groups_one, group_part, params_of, params_part}
 use Rattle.ep_syntax.proofs.Layers.{Layer, formulas_at, first_text, formed-roll, lead, lead-first, is_lead, name-first, some_formula, no_reads, end_reads}
 use Rattle.ep_syntax.proofs.DeepLaws.{opened_law, too_deep_reads}
 use Rattle.ep_syntax.proofs.ParenLaws.{made_from_first}
-use Rattle.ep_syntax.proofs.Readers.{Reads, Part, then, less, opened_reads, name_part, names_one}
-use Rattle.ep_syntax.proofs.Readers as reader
-use Rattle.ep_syntax.proofs.Sources.{both_true}
+use Rattle.ep_reader.proofs.CallerLemmas as reader
 use Rattle.ep_syntax.proofs.TreeEquations as eq
-use Rattle.ep_syntax.proofs.Whole.{IsEmpty, whole_outcome}
 use Rattle.ep_tree.specs.Grammar.{formulas}
+use Rattle.ep_reader.proofs.CallerLemmas.{each-list_all, list_all-each, and_true, Outcome, both, Made, Reads, Part, then, less, opened_reads, name_part, names_one, both_true, IsEmpty, whole_outcome}
 
 list_formed : (ps : List ParamTree) → OneOrMore IsFormedParam ps → formed_params ps ≡ true
 list_formed [] f = absurd f
@@ -156,5 +153,5 @@ formula_part (suc depth) k all = record {
   formed = some_formula;
 }
 
-pub formula_outcome : (ts : List Token) → Outcome formulas IsEmpty 0 ts (whole (formula 64) 0 ts)
+pub formula_outcome : (ts : List Token) → Outcome formulas IsEmpty 0 ts (whole outer_formula 0 ts)
 formula_outcome ts = whole_outcome (formula_part 64 1 refl) refl ts

@@ -1,6 +1,6 @@
 -- The laws of the readers of the initial state.
 use Rattle.std.proofs.Common.{◌≡◌, ℕ, true, false, IfSome, List, [], ◌∷◌, ◌++◌, Option, None, refl, sym, ◌∙◌, append_assoc}
-use Rattle.std.specs.List.{flat_map}
+use Rattle.std.specs.List.{AllByRecursion, flat_map}
 use Rattle.std.proofs.lemmas.Bool.{false≢true}
 use Rattle.ep_tree.specs.declared.terminal.Terminal.{Terminal}
 use Rattle.ep_tree.specs.declared.terminal.Terminal.TheVariants as the
@@ -18,23 +18,20 @@ use Rattle.ep_tree.specs.declared.tree.InitTree.TheVariants.{Explicit, Lawful}
 use Rattle.ep_tree.specs.declared.tree.FormulaTree.{FormulaTree}
 use Rattle.ep_tree.specs.declared.tree.FormulaTree.TheVariants as tree
 use Rattle.ep_tree.specs.Bare.{bare_pair, bare_pairs, bare_link, bare_world, bare_facts, bare_sees, bare_init}
-use Rattle.ep_tree.specs.Formed.{Each, IsFormedAtom, IsFormedPair, IsFormedPairs, IsFormedLink, IsFormedWorld, IsFormedSees, IsFormedInit}
+use Rattle.ep_tree.specs.Formed.{IsFormedAtom, IsFormedPair, IsFormedPairs, IsFormedLink, IsFormedWorld, IsFormedSees, IsFormedInit}
 use Rattle.ep_tree.specs.Grammar.{Grammar}
 use Rattle.ep_tree.specs.Marks.{texts}
-use Rattle.ep_syntax.specs.Reading.{Token, begins, each, any_listed, braced}
+use Rattle.ep_reader.specs.Reading.{Token, begins, each, any_listed, braced}
 use Rattle.ep_tree.specs.Terminals.{is}
 use Rattle.ep_tree.specs.Spelling as spell
 use Rattle.ep_tree.specs.Terminals.{text_of, is_name}
-use Rattle.ep_syntax.proofs.MarkLists.{Agree}
-use Rattle.ep_syntax.proofs.Laws.{Follow, both, Made}
-use Rattle.ep_syntax.proofs.ListLaws.{Agree-heads, each_of, each_part, some_each_of, some_each_part, behind_of, keyed_part, listed_of, any_listed_of, any_listed_part}
-use Rattle.ep_syntax.proofs.Readers.{Reads, Part, Any, Next, pair, then, made_by, made_all, either, fewer, next_lacks, plain, plain_reads, plain_part, names_one, name_part, some_name}
-use Rattle.ep_syntax.specs.TaskReading.{outer_formula, statement, atoms, pairs, link, designated, world, explicit_of, explicit, facts, sees, lawful_of, lawful, init_items, init}
+use Rattle.ep_syntax.specs.FormulaReading.{outer_formula}
+use Rattle.ep_syntax.specs.TaskReading.{statement, atoms, pairs, link, designated, world, explicit_of, explicit, facts, sees, lawful_of, lawful, init_items, init}
 use Rattle.ep_syntax.specs.TaskReading as reading
-use Rattle.ep_syntax.proofs.AtomLaws.{NotOpen, within_of, within_part, names_part, atoms_one, any_atoms_part, group_part}
-use Rattle.ep_syntax.proofs.DeclarationLaws.{braced_of, braced_part, IsOptional, optional_part}
+use Rattle.ep_syntax.proofs.AtomLaws.{NotOpen, atoms_one, any_atoms_part, group_part}
 use Rattle.ep_syntax.proofs.FormulaLaws.{formula_part}
 use Rattle.ep_syntax.proofs.Layers.{formulas_at, some_formula}
+use Rattle.ep_reader.proofs.CallerLemmas.{Agree, Follow, both, Made, Agree-heads, each_of, each_part, some_each_of, some_each_part, behind_of, keyed_part, listed_of, any_listed_of, any_listed_part, Reads, Part, Any, Next, pair, then, made_by, made_all, either, fewer, next_lacks, plain, plain_reads, plain_part, names_one, name_part, some_name, within_of, within_part, names_part, braced_of, braced_part, IsOptional, optional_part}
 
 -- ---- a formula before a terminal
 
@@ -174,7 +171,7 @@ explicit_reads n ts e =
 -- ---- the lawful form
 
 abbrev facts_of : Grammar (Option (List AtomTree))
-facts_of = record { marks = spell.facts; IsFormed = λ o. IfSome o (Each IsFormedAtom); bare = bare_facts }
+facts_of = record { marks = spell.facts; IsFormed = λ o. IfSome o (AllByRecursion IsFormedAtom); bare = bare_facts }
 
 facts_optional : IsOptional the.Facts atoms_of facts_of
 facts_optional = record { nothing = refl; something = λ _. refl; none_formed = tt; some_formed = λ _ f. f; formed_some = λ _ f. f; none_bare = refl; some_bare = λ _. refl }

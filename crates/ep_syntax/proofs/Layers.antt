@@ -15,16 +15,13 @@ use Rattle.ep_tree.specs.Formed.{formed_layer, formed_formula, IsFormedFormula}
 use Rattle.ep_syntax.specs.FormulaReading.{starters, starter_of}
 use Rattle.ep_tree.specs.Grammar.{Grammar}
 use Rattle.ep_tree.specs.Marks.{Mark, fixed, named, texts}
-use Rattle.ep_syntax.specs.Reading.{Token, Syntax}
+use Rattle.ep_reader.specs.Reading.{Token, Syntax}
 use Rattle.ep_tree.specs.Terminals.{is}
 use Rattle.ep_tree.specs.Spelling.{between, formula_at}
 use Rattle.ep_tree.specs.Spelling as spell
 use Rattle.ep_tree.specs.Terminals.{text_of, is_name}
-use Rattle.ep_syntax.proofs.Laws.{Follow}
-use Rattle.ep_syntax.proofs.MarkLists.{Agree}
-use Rattle.ep_syntax.proofs.Readers.{Reads, is-true}
-use Rattle.ep_syntax.proofs.Sources.{both_true}
 use Rattle.ep_syntax.proofs.TreeEquations as eq
+use Rattle.ep_reader.proofs.CallerLemmas.{Follow, Agree, Reads, is-true, both_true}
 
 abbrev pub Layer : Type 0
 Layer = FormulaTree-F FormulaTree

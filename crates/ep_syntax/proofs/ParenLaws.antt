@@ -1,6 +1,6 @@
 -- The laws of the readers of what stands in parentheses.
 use Rattle.std.proofs.Common.{◌≡◌, ℕ, suc, ◌≤◌, Bool, true, false, ◌&&◌, List, [], ◌∷◌, ◌++◌, length, map, Some, refl, sym, ap, ◌∙◌, subst, arith, append_assoc, length-append}
-use Rattle.std.specs.List.{flat_map, list_all}
+use Rattle.std.specs.List.{AllByRecursion, flat_map, list_all}
 use Rattle.std.specs.Prelude.{nat_le}
 use Rattle.std.proofs.lemmas.Bool.{false≢true, le-leb}
 use Rattle.ep_tree.specs.declared.terminal.Terminal.{Terminal}
@@ -10,25 +10,21 @@ use Rattle.ep_tree.specs.declared.tree.FormulaTree.{FormulaTree, out-FormulaTree
 use Rattle.ep_tree.specs.declared.tree.FormulaTree.TheOpen as layer
 use Rattle.ep_tree.specs.declared.tree.FormulaTree.TheVariants as tree
 use Rattle.ep_tree.specs.Bare.{bare_formula}
-use Rattle.ep_tree.specs.Formed.{Each, OneOrMore, formed_formula, formed_parts, is_true, IsFormedFormula, IsFormedName}
+use Rattle.ep_tree.specs.Formed.{OneOrMore, formed_formula, formed_parts, is_true, IsFormedFormula, IsFormedName}
 use Rattle.ep_syntax.specs.FormulaReading.{Tail, closed, anded, ored, some_behind, joined, tail, with_tail, inside_of, inside, equal_of, equality, follows, starter_of}
 use Rattle.ep_tree.specs.Grammar.{Grammar}
 use Rattle.ep_tree.specs.Marks.{Mark, fixed, opening, texts}
-use Rattle.ep_syntax.specs.Reading.{Token, Read, Reader, made, begins, heads, name_begins, front}
+use Rattle.ep_reader.specs.Reading.{Token, Read, Reader, made, begins, heads, name_begins, front}
 use Rattle.ep_tree.specs.Terminals.{is}
 use Rattle.ep_tree.specs.Spelling.{behind, between, formula_at}
 use Rattle.ep_tree.specs.Spelling as spell
 use Rattle.ep_tree.specs.Terminals.{text_of, is_name}
 use Rattle.ep_tree.specs.declared.tree.AtomTree.{AtomTree}
-use Rattle.ep_syntax.proofs.AtomLaws.{NotOpen, and_true}
-use Rattle.ep_syntax.proofs.Laws.{Follow, both, both_then, Makes, Made}
+use Rattle.ep_syntax.proofs.AtomLaws.{NotOpen}
 use Rattle.ep_syntax.proofs.Layers.{Layer, formulas_at, first_text, rest_marks, rest_texts, texts-out, formed-out, formed-roll, formula_long, lead, lead-first, name-first, starter-text, some_formula}
-use Rattle.ep_syntax.proofs.ListLaws.{Agree-heads, behind_of, behind-flat_map, each_of, behind_part, rest_part, follow_rest}
-use Rattle.ep_syntax.proofs.MarkLists.{Agree}
-use Rattle.ep_syntax.proofs.Readers.{opened_reads, Reads, Part, Any, Next, pair, then, made_by, made_all, made_far, Witness, either, next_lacks, plain, plain_reads, plain_part, names_one, name_part, some_name}
-use Rattle.ep_syntax.proofs.Readers as reader
-use Rattle.ep_syntax.proofs.Sources.{both_true}
+use Rattle.ep_reader.proofs.CallerLemmas as reader
 use Rattle.ep_syntax.proofs.TreeEquations as eq
+use Rattle.ep_reader.proofs.CallerLemmas.{and_true, Follow, both, both_then, Makes, Made, Agree-heads, behind_of, behind-flat_map, each_of, behind_part, rest_part, follow_rest, Agree, opened_reads, Reads, Part, Any, Next, pair, then, made_by, made_all, made_far, Witness, either, next_lacks, plain, plain_reads, plain_part, names_one, name_part, some_name, both_true}
 
 -- ---- and, or and the closing parenthesis
 
@@ -154,11 +150,11 @@ inside_marks k ((t, p), ored ps) = eq.formula_at-Or t (p ∷ ps) k
     ∙ ap (λ z. opening k t the.OpenParen ∷ z) (append_assoc (formula_at p (suc k)) (behind the.Or (map (λ p. formula_at p (suc k)) ps)) (fixed the.CloseParen ∷ []))
 
 -- two parts at least, each formed
-all_formed : (ps : List FormulaTree) → list_all is_true (map formed_formula ps) ≡ true → Each IsFormedFormula ps
+all_formed : (ps : List FormulaTree) → list_all is_true (map formed_formula ps) ≡ true → AllByRecursion IsFormedFormula ps
 all_formed [] e = tt
 all_formed (p ∷ ps) e = ((both_true _ _ e).0, all_formed ps (both_true _ _ e).1)
 
-formed_all : (ps : List FormulaTree) → Each IsFormedFormula ps → list_all is_true (map formed_formula ps) ≡ true
+formed_all : (ps : List FormulaTree) → AllByRecursion IsFormedFormula ps → list_all is_true (map formed_formula ps) ≡ true
 formed_all [] f = refl
 formed_all (p ∷ ps) f = ap (λ b. b && list_all is_true (map formed_formula ps)) f.0 ∙ formed_all ps f.1
 

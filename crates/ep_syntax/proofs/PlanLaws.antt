@@ -1,8 +1,6 @@
 -- The law of the reader of plan files.
-use Rattle.std.proofs.Common.{◌≡◌, ℕ, zero, suc, ◌^◌, ◌<◌, Bool, true, false, List, [], ◌∷◌, ◌++◌, map, None, refl, sym, ap, ◌∙◌, arith}
-use Rattle.std.specs.Fmt.{decimal}
+use Rattle.std.proofs.Common.{◌≡◌, ℕ, Bool, true, false, List, [], ◌∷◌, map, Result, Err, IfErr, refl, sym, ap, ◌∙◌, subst, arith, ◌⊎◌, inl, inr}
 use Rattle.std.specs.List.{flat_map}
-use Rattle.std.specs.Str.Parse.{digits_value}
 use Rattle.std.proofs.lemmas.Bool.{false≢true}
 use Rattle.ep_tree.specs.declared.terminal.Terminal.TheVariants as the
 use Rattle.ep_tree.specs.declared.tree.Name.{Name}
@@ -11,61 +9,21 @@ use Rattle.ep_tree.specs.declared.tree.PlanTree.{PlanTree}
 use Rattle.ep_tree.specs.Bare.{bare_call}
 use Rattle.ep_tree.specs.Formed.{IsFormedCall}
 use Rattle.ep_tree.specs.Grammar.{Grammar, plans, IsDeep}
-use Rattle.ep_tree.specs.Marks.{Mark, fixed, named, nesting_at, IsShallow}
-use Rattle.ep_syntax.specs.PlanReading.{is_count, count_at, count, call, heading, plan}
-use Rattle.ep_syntax.specs.Reading.{Token, heads, each, whole}
+use Rattle.ep_tree.specs.Marks.{fixed, named, IsShallow}
+use Rattle.ep_base.specs.Refusals.{OrWant}
+use Rattle.ep_lex.specs.Tokens.{spellings}
+use Rattle.ep_reader.specs.declared.text.TextError.{TextError}
+use Rattle.ep_reader.specs.declared.text.TextError.TheVariants as error
+use Rattle.ep_reader.specs.declared.text.ParsedText.{ParsedText}
+use Rattle.ep_reader.specs.Texts.{IsDepthFault, IsTextFault}
+use Rattle.ep_syntax.specs.PlanReading.{call, heading, plan}
+use Rattle.ep_reader.specs.Reading.{Token, each, whole}
 use Rattle.ep_tree.specs.Terminals.{is}
 use Rattle.ep_tree.specs.Spelling as spell
 use Rattle.ep_tree.specs.Spelling.{behind}
 use Rattle.ep_tree.specs.Terminals.{is_name}
 use Rattle.ep_syntax.proofs.AtomLaws.{NotOpen, arguments_part}
-use Rattle.ep_syntax.proofs.CountLaws.{count_written, written_count, written_value}
-use Rattle.ep_syntax.proofs.Laws.{Follow, IsRefused, Outcome, both}
-use Rattle.ep_syntax.proofs.ListLaws.{each_of, each_part}
-use Rattle.ep_syntax.proofs.MarkLists.{Agree}
-use Rattle.ep_syntax.proofs.Readers.{Reads, Part, Any, Next, pair, then, made_all, either, less_part, is-true, next_lacks, plain, plain_reads, plain_part, names_one, name_part, some_name}
-use Rattle.ep_syntax.proofs.Whole.{IsEmpty, whole_outcome}
-
--- ---- counts
-
-abbrev pub counts_one : Grammar ℕ
-counts_one = record { marks = λ n. spell.count n ∷ []; IsFormed = λ n. n < 10 ^ 9; bare = λ n. n }
-
-pub count_part : {F : Follow} → Part counts_one F count
-count_part = less_part (record { reads = λ n ts. either (heads is_count ts) (λ e. record { holds = count_read n ts e }) (λ e. record { holds = count_refused n ts e }); value = 0; formed = omega arith })
-  where
-    count_refused : (n : ℕ) (ts : List Token) → heads is_count ts ≡ false → IsRefused counts_one Any n ts n
-    count_refused n ts e = record {
-      front = [];
-      back = ts;
-      text = refl;
-      at = omega arith;
-      none = λ b more f s a. by_first ts e b more f a;
-      value = 0;
-      more = decimal 0 ∷ [];
-      formed = omega arith;
-      begins = refl;
-      shallow = tt;
-    }
-      where
-        by_first : (ts : List Token) → heads is_count ts ≡ false → (b : ℕ) (more : List Token) → b < 10 ^ 9 → Agree 1 ts (decimal b ∷ more) → ⊥
-        by_first [] e b more f a = a
-        by_first (u ∷ us) e b more f a = false≢true (sym e ∙ ap is_count a.0 ∙ written_count b f)
-
-    count_read : (n : ℕ) (ts : List Token) → heads is_count ts ≡ true → Outcome counts_one Any n ts (count_at n ts)
-    count_read n [] e = absurd (false≢true e)
-    count_read n (u ∷ us) e =
-        let w = count_written u e in
-        record {
-          text = ap (λ z. z ∷ us) (sym w.decimal);
-          at = refl;
-          placed = (tt, tt);
-          formed = w.below;
-          shallow = (tt, tt);
-          only = λ b more f s a.
-              let same : digits_value 10 u ≡ b = ap (digits_value 10) a.0 ∙ written_value b f in
-              record { bare = same; outlines = ap (λ z. spell.count z ∷ []) same };
-        }
+use Rattle.ep_reader.proofs.CallerLemmas.{Outcome, both, each_of, each_part, Reads, Part, Any, Next, pair, then, made_all, is-true, next_lacks, plain, plain_reads, plain_part, names_one, name_part, some_name, IsEmpty, whole_outcome, Flat, count_part, flat_append, flat_none, flat_shallow}
 
 -- ---- calls
 
@@ -119,14 +77,6 @@ plan_outcome ts = whole_outcome plan_part tt ts
 
 -- ---- no formula stands in a plan file
 
-abbrev Flat : List Mark → Type 0
-Flat [] = Unit {0}
-Flat (m ∷ ms) = (m.nesting ≡ None) × Flat ms
-
-flat_append : (xs ys : List Mark) → Flat xs → Flat ys → Flat (xs ++ ys)
-flat_append [] ys f g = g
-flat_append (x ∷ xs) ys f g = (f.0, flat_append xs ys f.1 g)
-
 behind_flat : (ns : List Name) → Flat (behind the.Comma (map (λ n. named n ∷ []) ns))
 behind_flat [] = tt
 behind_flat (n ∷ ns) = (refl, (refl, behind_flat ns))
@@ -142,20 +92,20 @@ calls_flat (c ∷ cs) = flat_append (spell.call c) (flat_map spell.call cs) (ref
 plan_flat : (p : PlanTree) → Flat (spell.plan p)
 plan_flat p = (refl, (refl, (refl, (refl, (refl, (refl, flat_append (flat_map spell.call p.calls) (fixed the.End ∷ []) (calls_flat p.calls) (refl, tt)))))))
 
-flat_shallow : (ms : List Mark) → Flat ms → IsShallow ms
-flat_shallow [] f = tt
-flat_shallow (m ∷ ms) f = (rw f.0 tt, flat_shallow ms f.1)
-
 pub plan_shallow : (p : PlanTree) → IsShallow (spell.plan p)
 plan_shallow p = flat_shallow (spell.plan p) (plan_flat p)
-
-flat_none : (ms : List Mark) (i : ℕ) → Flat ms → nesting_at ms i ≡ None
-flat_none [] i f = refl
-flat_none (m ∷ ms) zero f = f.0
-flat_none (m ∷ ms) (suc i) f = flat_none ms i f.1
 
 pub none_deep : (ts : List Token) (t : ℕ) → IsDeep plans ts t → ⊥
 none_deep ts t d =
     let o = d.always d.viable.tree d.viable.more d.viable.formed d.viable.spelled in
     let n = flat_none (spell.plan d.viable.tree) t (plan_flat d.viable.tree) in
     cc
+
+pub no_depth_fault : (bytes : List ℕ) (token line : ℕ) (r : Result (ParsedText PlanTree) TextError) → IfErr r (OrWant error.OutOfMemory (IsTextFault plans bytes))
+    → r ≡ Err (error.TooDeep token line) → ⊥
+no_depth_fault bytes token line r fault e =
+    by_fault (subst (λ z. IfErr z (OrWant error.OutOfMemory (IsTextFault plans bytes))) e fault)
+  where
+    by_fault : (error.TooDeep token line ≡ error.OutOfMemory) ⊎ IsDepthFault plans bytes token line → ⊥
+    by_fault (inl want) = cc
+    by_fault (inr deep) = none_deep (spellings bytes deep.found.tokens) token deep.fault.deep

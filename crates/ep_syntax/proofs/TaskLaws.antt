@@ -7,18 +7,14 @@ use Rattle.ep_tree.specs.declared.tree.InitTree.TheVariants.{Lawful}
 use Rattle.ep_tree.specs.declared.tree.FormulaTree.TheVariants as tree
 use Rattle.ep_tree.specs.Grammar.{Grammar, tasks}
 use Rattle.ep_tree.specs.Marks.{Mark, fixed, named}
-use Rattle.ep_syntax.specs.Reading.{Token, whole}
+use Rattle.ep_reader.specs.Reading.{Token, whole}
 use Rattle.ep_tree.specs.Spelling as spell
-use Rattle.ep_syntax.proofs.Laws.{both}
-use Rattle.ep_syntax.proofs.ListLaws.{each_of, behind_of}
-use Rattle.ep_syntax.proofs.Readers.{Reads, Part, Any, pair, then, made_all, plain, plain_reads, plain_part, names_one, name_part, some_name}
 use Rattle.ep_syntax.specs.TaskReading.{Declarations, declarations, task}
 use Rattle.ep_syntax.proofs.ActionLaws.{schemas_part}
-use Rattle.ep_syntax.proofs.DeclarationLaws.{braced_of, types_of, types_part, objects_one, objects_part, fluents_part}
+use Rattle.ep_syntax.proofs.DeclarationLaws.{types_of, types_part, objects_one, objects_part, fluents_part}
 use Rattle.ep_syntax.proofs.InitialLaws.{statement_part, init_part}
-use Rattle.ep_syntax.proofs.Laws.{Outcome}
 use Rattle.ep_syntax.proofs.Layers.{some_formula}
-use Rattle.ep_syntax.proofs.Whole.{IsEmpty, whole_outcome}
+use Rattle.ep_reader.proofs.CallerLemmas.{both, Outcome, each_of, behind_of, Reads, Part, Any, pair, then, made_all, plain, plain_reads, plain_part, names_one, name_part, some_name, braced_of, IsEmpty, whole_outcome}
 
 abbrev declarations_of : Grammar Declarations
 declarations_of = both (both (both (both (plain the.Task) names_one) (plain the.Semicolon)) types_of) (behind_of the.Objects (braced_of (each_of objects_one)))

@@ -1,5 +1,6 @@
 -- How atoms, groups, parameters and formulas are read.
 use Rattle.std.specs.Prelude.{ℕ, zero, suc, ◌+◌, ◌==◌, Bool, ◌&&◌, ◌||◌, if◌then◌else◌, List, [], ◌∷◌, drop, find, is_some, Option, Some, None, Ok, Err}
+use Rattle.ep_tree.specs.declared.limits.TheConstants.{MOST_NESTING}
 use Rattle.ep_tree.specs.declared.terminal.Terminal.{Terminal}
 use Rattle.ep_tree.specs.declared.terminal.Terminal.TheVariants as the
 use Rattle.ep_tree.specs.declared.tree.Name.{Name}
@@ -9,9 +10,8 @@ use Rattle.ep_tree.specs.declared.tree.GroupTree.TheVariants as group_tree
 use Rattle.ep_tree.specs.declared.tree.ParamTree.{ParamTree}
 use Rattle.ep_tree.specs.declared.tree.FormulaTree.{FormulaTree}
 use Rattle.ep_tree.specs.declared.tree.FormulaTree.TheVariants as tree
-use Rattle.ep_syntax.specs.Reading.{Token, Syntax, TooDeep, Reader, seq, made, heads, begins, key, name, name_begins, each, front, behind_key, listed, any_listed, within, whole}
-use Rattle.ep_tree.specs.Terminals.{is}
-use Rattle.ep_tree.specs.Terminals.{is_name}
+use Rattle.ep_reader.specs.Reading.{Token, Syntax, TooDeep, Reader, seq, made, heads, begins, key, name, name_begins, each, front, behind_key, listed, any_listed, within}
+use Rattle.ep_tree.specs.Terminals.{is, is_name}
 
 -- ---- atoms, groups, parameters
 
@@ -140,18 +140,19 @@ by_terminal last item _ n ts = Err (Syntax n)
 unfoldable pub by_token : Bool → Reader FormulaTree → Reader FormulaTree
 by_token last item n ts = if name_begins ts then made tree.Atom (atom n ts) else by_terminal last item (starter ts) n ts
 
-abbrev pub starts_formula : List Token → Bool
-starts_formula ts = name_begins ts || is_some (starter ts)
+-- a formula may begin with the token
+abbrev pub starts_formula : Token → Bool
+starts_formula t = is_name t || is_some (starter_of t)
 
 -- where no nesting is left
 abbrev pub too_deep : Reader FormulaTree
-too_deep n ts = if starts_formula ts then Err (TooDeep n) else Err (Syntax n)
+too_deep n ts = if heads starts_formula ts then Err (TooDeep n) else Err (Syntax n)
 
 -- a formula with so many nestings left
 unfoldable pub formula : ℕ → Reader FormulaTree
 formula zero = too_deep
 formula (suc depth) = by_token (depth == 0) (formula depth)
 
--- a formula by itself
-unfoldable pub whole_formula : Reader FormulaTree
-whole_formula n ts = whole (formula 64) n ts
+-- a formula that stands in no other
+abbrev pub outer_formula : Reader FormulaTree
+outer_formula = formula MOST_NESTING

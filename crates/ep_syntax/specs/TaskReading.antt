@@ -1,5 +1,5 @@
 -- How tasks are read.
-use Rattle.std.specs.Prelude.{ℕ, Bool, true, false, if◌then◌else◌, List, [], Option, Some, None, Ok}
+use Rattle.std.specs.Prelude.{ℕ, Bool, true, false, if◌then◌else◌, List, [], Option, Ok}
 use Rattle.ep_tree.specs.declared.terminal.Terminal.{Terminal}
 use Rattle.ep_tree.specs.declared.terminal.Terminal.TheVariants as the
 use Rattle.ep_tree.specs.declared.tree.Name.{Name}
@@ -24,14 +24,9 @@ use Rattle.ep_tree.specs.declared.tree.BodyTree.{BodyTree}
 use Rattle.ep_tree.specs.declared.tree.BodyTree.TheVariants.{Announce, Private, Sense, Assign, Events}
 use Rattle.ep_tree.specs.declared.tree.SchemaTree.{SchemaTree}
 use Rattle.ep_tree.specs.declared.tree.FormulaTree.{FormulaTree}
-use Rattle.ep_syntax.specs.FormulaReading.{arguments, atom, group, params, formula}
-use Rattle.ep_syntax.specs.Reading.{Reader, seq, made, begins, key, name, each, some_each, behind_key, listed, any_listed, within, braced, whole}
-use Rattle.ep_tree.specs.Terminals.{is}
-use Rattle.ep_tree.specs.Terminals.{is_name}
-
--- a formula that stands in no other
-abbrev pub outer_formula : Reader FormulaTree
-outer_formula = formula 64
+use Rattle.ep_syntax.specs.FormulaReading.{arguments, atom, group, params, outer_formula}
+use Rattle.ep_reader.specs.Reading.{Reader, seq, made, begins, key, name, each, some_each, behind_key, listed, any_listed, within, optional, braced}
+use Rattle.ep_tree.specs.Terminals.{is, is_name}
 
 -- '{' [ atoms ] '}'
 abbrev pub atoms : Reader (List AtomTree)
@@ -46,7 +41,7 @@ unfoldable pub type_entry : Reader TypeTree
 type_entry n ts = made type_of (seq (seq (seq (name n ts) (key the.Less)) name) (key the.Semicolon))
 
 unfoldable pub types : Reader (Option (List TypeTree))
-types n ts = if begins the.Types ts then made Some (behind_key the.Types (braced (each is_name type_entry)) n ts) else Ok (None, n, ts)
+types n ts = optional the.Types (braced (each is_name type_entry)) n ts
 
 abbrev pub object_of : ((List Name × ℕ) × Name) × ℕ → ObjectTree
 object_of p = record { names = p.0.0.0; kind = p.0.1 }
@@ -102,7 +97,7 @@ unfoldable pub explicit : Reader InitTree
 explicit n ts = made explicit_of (seq (seq (some_each (is the.World) world n ts) designated) (each (is the.Links) link))
 
 unfoldable pub facts : Reader (Option (List AtomTree))
-facts n ts = if begins the.Facts ts then made Some (behind_key the.Facts atoms n ts) else Ok (None, n, ts)
+facts n ts = optional the.Facts atoms n ts
 
 abbrev pub sees_of : (ℕ × GroupTree) × List AtomTree → SeesTree
 sees_of p = record { group = p.0.1; atoms = p.1 }
@@ -211,6 +206,3 @@ declarations n ts = seq (seq (seq (seq (key the.Task n ts) name) (key the.Semico
 
 unfoldable pub task : Reader TaskTree
 task n ts = made task_of (seq (seq (seq (seq (declarations n ts) fluents) init) (each (is the.Action) schema)) (statement the.Goal))
-
-unfoldable pub whole_task : Reader TaskTree
-whole_task n ts = whole task n ts

@@ -1,21 +1,20 @@
 //! Readers of the actions of a task.
 
 ghost use Rattle.std.specs.Prelude.{◌≡◌};
-ghost use Rattle.ep_syntax.specs.Gives.{Gives};
+ghost use Rattle.ep_reader.specs.Gives.{Gives};
 ghost use Rattle.ep_syntax.specs.TaskReading as reading;
 
-use crate::atom::{group, params};
-use crate::error::SyntaxError;
-use crate::initial::{designated, outer_formula, statement};
-use crate::parse::{Parse, braced_each, each_of, some_of};
-use crate::reader::Reader;
+use crate::atom::{parse_group, parse_params};
+use crate::initial::{parse_designated, parse_statement};
+use crate::language::TaskLanguage;
 use ep_base::List;
+use ep_reader::{Parse, Reader, SyntaxError, parse_braced_each, parse_each, parse_some_each};
 use ep_tree::{
     AtomTree, BodyTree, EventTree, FormulaTree, ParamTree, SchemaTree, SetTree, Terminal,
 };
 use std::alloc::Global;
 
-impl Parse for SetTree {
+impl Parse<TaskLanguage> for SetTree {
     ghost use Rattle.ep_tree.specs.Terminals.{is_name};
     ghost use Rattle.ep_syntax.specs.TaskReading.{set};
 
@@ -31,13 +30,13 @@ impl Parse for SetTree {
     fn parse(reader: &mut Reader, alloc: Global) -> Result<SetTree, SyntaxError> {
         let atom = AtomTree::parse(reader, alloc)?;
         reader.expect(Terminal::Becomes)?;
-        let value = outer_formula(reader, alloc)?;
+        let value = FormulaTree::parse(reader, alloc)?;
         reader.expect(Terminal::Semicolon)?;
         Ok(SetTree { atom, value })
     }
 }
 
-impl Parse for EventTree {
+impl Parse<TaskLanguage> for EventTree {
     ghost use Rattle.ep_tree.specs.Terminals.{is};
     ghost use Rattle.ep_syntax.specs.TaskReading.{event};
     ghost use Rattle.ep_tree.specs.declared.terminal.Terminal.TheVariants as the;
@@ -53,56 +52,56 @@ impl Parse for EventTree {
     #[tactic(auto, unfolding(crate::specs::TaskReading::event))]
     fn parse(reader: &mut Reader, alloc: Global) -> Result<EventTree, SyntaxError> {
         reader.expect(Terminal::Event)?;
-        let name = reader.name(alloc)?;
+        let name = reader.expect_name(alloc)?;
         reader.expect(Terminal::Pre)?;
-        let pre = outer_formula(reader, alloc)?;
-        let sets = braced_each(reader, alloc)?;
+        let pre = FormulaTree::parse(reader, alloc)?;
+        let sets = parse_braced_each(reader, alloc)?;
         Ok(EventTree { name, pre, sets })
     }
 }
 
 #[tactic(auto, unfolding(crate::specs::TaskReading::private_message))]
-fn private_message(reader: &mut Reader, alloc: Global) -> Result<BodyTree, SyntaxError>
+fn parse_private_message(reader: &mut Reader, alloc: Global) -> Result<BodyTree, SyntaxError>
     ensures { Gives reading.private_message reader.old result reader.new }
 {
     reader.expect(Terminal::Private)?;
-    let what = outer_formula(reader, alloc)?;
+    let what = FormulaTree::parse(reader, alloc)?;
     reader.expect(Terminal::To)?;
-    let group = group(reader, alloc)?;
+    let group = parse_group(reader, alloc)?;
     reader.expect(Terminal::Semicolon)?;
     Ok(BodyTree::Private { what, group })
 }
 
 #[tactic(auto, unfolding(crate::specs::TaskReading::sensing))]
-fn sensing(reader: &mut Reader, alloc: Global) -> Result<BodyTree, SyntaxError>
+fn parse_sensing(reader: &mut Reader, alloc: Global) -> Result<BodyTree, SyntaxError>
     ensures { Gives reading.sensing reader.old result reader.new }
 {
     reader.expect(Terminal::Sense)?;
-    let what = outer_formula(reader, alloc)?;
+    let what = FormulaTree::parse(reader, alloc)?;
     reader.expect(Terminal::By)?;
-    let group = group(reader, alloc)?;
+    let group = parse_group(reader, alloc)?;
     reader.expect(Terminal::Semicolon)?;
     Ok(BodyTree::Sense { what, group })
 }
 
 #[tactic(auto, unfolding(crate::specs::TaskReading::assignment))]
-fn assignment(reader: &mut Reader, alloc: Global) -> Result<BodyTree, SyntaxError>
+fn parse_assignment(reader: &mut Reader, alloc: Global) -> Result<BodyTree, SyntaxError>
     ensures { Gives reading.assignment reader.old result reader.new }
 {
     reader.expect(Terminal::Assign)?;
     reader.expect(Terminal::When)?;
-    let guard = outer_formula(reader, alloc)?;
-    let sets = braced_each(reader, alloc)?;
+    let guard = FormulaTree::parse(reader, alloc)?;
+    let sets = parse_braced_each(reader, alloc)?;
     Ok(BodyTree::Assign { guard, sets })
 }
 
 #[tactic(auto, unfolding(crate::specs::TaskReading::events))]
-fn events(reader: &mut Reader, alloc: Global) -> Result<BodyTree, SyntaxError>
+fn parse_events(reader: &mut Reader, alloc: Global) -> Result<BodyTree, SyntaxError>
     ensures { Gives reading.events reader.old result reader.new }
 {
-    let events = some_of(reader, alloc)?;
-    let designated = designated(reader, alloc)?;
-    let links = each_of(reader, alloc)?;
+    let events = parse_some_each(reader, alloc)?;
+    let designated = parse_designated(reader, alloc)?;
+    let links = parse_each(reader, alloc)?;
     Ok(BodyTree::Events {
         events,
         designated,
@@ -111,25 +110,25 @@ fn events(reader: &mut Reader, alloc: Global) -> Result<BodyTree, SyntaxError>
 }
 
 #[tactic(auto, unfolding(crate::specs::TaskReading::body))]
-fn body(reader: &mut Reader, alloc: Global) -> Result<BodyTree, SyntaxError>
+fn parse_body(reader: &mut Reader, alloc: Global) -> Result<BodyTree, SyntaxError>
     ensures { Gives reading.body reader.old result reader.new }
 {
     if reader.sees(Terminal::Announce) {
-        let what = statement(reader, alloc, Terminal::Announce)?;
+        let what = parse_statement(reader, alloc, Terminal::Announce)?;
         Ok(BodyTree::Announce { what })
     } else if reader.sees(Terminal::Private) {
-        private_message(reader, alloc)
+        parse_private_message(reader, alloc)
     } else if reader.sees(Terminal::Sense) {
-        sensing(reader, alloc)
+        parse_sensing(reader, alloc)
     } else if reader.sees(Terminal::Assign) {
-        assignment(reader, alloc)
+        parse_assignment(reader, alloc)
     } else {
-        events(reader, alloc)
+        parse_events(reader, alloc)
     }
 }
 
 #[tactic(auto, unfolding(crate::specs::TaskReading::distinct))]
-fn distinct(reader: &mut Reader) -> Result<bool, SyntaxError>
+fn parse_distinct(reader: &mut Reader) -> Result<bool, SyntaxError>
     ensures { Gives reading.distinct reader.old result reader.new }
 {
     if reader.sees(Terminal::Distinct) {
@@ -142,19 +141,22 @@ fn distinct(reader: &mut Reader) -> Result<bool, SyntaxError>
 
 // The parameters, and whether their values are to be distinct.
 #[tactic(auto, unfolding(crate::specs::TaskReading::signature))]
-fn signature(reader: &mut Reader, alloc: Global) -> Result<(List<ParamTree>, bool), SyntaxError>
+fn parse_signature(
+    reader: &mut Reader,
+    alloc: Global,
+) -> Result<(List<ParamTree>, bool), SyntaxError>
     ensures { Gives reading.signature reader.old result reader.new }
 {
     if reader.sees(Terminal::OpenParen) {
-        let params = params(reader, alloc)?;
-        let distinct = distinct(reader)?;
+        let params = parse_params(reader, alloc)?;
+        let distinct = parse_distinct(reader)?;
         Ok((params, distinct))
     } else {
         Ok((List::new(alloc), false))
     }
 }
 
-impl Parse for SchemaTree {
+impl Parse<TaskLanguage> for SchemaTree {
     ghost use Rattle.ep_tree.specs.Terminals.{is};
     ghost use Rattle.ep_syntax.specs.TaskReading.{schema};
     ghost use Rattle.ep_tree.specs.declared.terminal.Terminal.TheVariants as the;
@@ -170,10 +172,10 @@ impl Parse for SchemaTree {
     #[tactic(auto, unfolding(crate::specs::TaskReading::schema))]
     fn parse(reader: &mut Reader, alloc: Global) -> Result<SchemaTree, SyntaxError> {
         reader.expect(Terminal::Action)?;
-        let name = reader.name(alloc)?;
-        let (params, distinct) = signature(reader, alloc)?;
+        let name = reader.expect_name(alloc)?;
+        let (params, distinct) = parse_signature(reader, alloc)?;
         reader.expect(Terminal::OpenBrace)?;
-        let body = body(reader, alloc)?;
+        let body = parse_body(reader, alloc)?;
         reader.expect(Terminal::CloseBrace)?;
         Ok(SchemaTree {
             name,

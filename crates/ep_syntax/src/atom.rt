@@ -2,19 +2,16 @@
 
 ghost use Rattle.std.specs.Prelude.{◌≡◌};
 ghost use Rattle.ep_syntax.specs.FormulaReading as reading;
-ghost use Rattle.ep_syntax.specs.Gives.{Gives};
-ghost use Rattle.ep_syntax.specs.Reading.{name};
-ghost use Rattle.ep_tree.specs.Terminals.{is_name};
+ghost use Rattle.ep_reader.specs.Gives.{Gives};
 
-use crate::error::SyntaxError;
-use crate::parse::{Parse, one_or_more, zero_or_more};
-use crate::reader::Reader;
+use crate::language::TaskLanguage;
 use ep_base::List;
+use ep_reader::{Parse, Reader, SyntaxError, parse_any_listed, parse_listed};
 use ep_tree::{AtomTree, GroupTree, Name, ParamTree, Terminal};
 use std::alloc::Global;
 
-impl Parse for Name {
-    ghost use Rattle.ep_syntax.specs.Reading.{name};
+impl Parse<TaskLanguage> for Name {
+    ghost use Rattle.ep_reader.specs.Reading.{name};
     ghost use Rattle.ep_tree.specs.Terminals.{is_name};
 
     ghost starts = { is_name };
@@ -26,18 +23,18 @@ impl Parse for Name {
     }
 
     fn parse(reader: &mut Reader, alloc: Global) -> Result<Name, SyntaxError> {
-        reader.name(alloc)
+        reader.expect_name(alloc)
     }
 }
 
 /// Nothing, or names in parentheses.
 #[tactic(auto, unfolding(crate::specs::FormulaReading::arguments))]
-pub fn arguments(reader: &mut Reader, alloc: Global) -> Result<List<Name>, SyntaxError>
+pub fn parse_arguments(reader: &mut Reader, alloc: Global) -> Result<List<Name>, SyntaxError>
     ensures { Gives reading.arguments reader.old result reader.new }
 {
     if reader.sees(Terminal::OpenParen) {
         reader.expect(Terminal::OpenParen)?;
-        let names = one_or_more(reader, alloc)?;
+        let names = parse_listed(reader, alloc)?;
         reader.expect(Terminal::CloseParen)?;
         Ok(names)
     } else {
@@ -45,7 +42,7 @@ pub fn arguments(reader: &mut Reader, alloc: Global) -> Result<List<Name>, Synta
     }
 }
 
-impl Parse for AtomTree {
+impl Parse<TaskLanguage> for AtomTree {
     ghost use Rattle.ep_syntax.specs.FormulaReading.{atom};
     ghost use Rattle.ep_tree.specs.Terminals.{is_name};
 
@@ -59,14 +56,14 @@ impl Parse for AtomTree {
 
     #[tactic(auto, unfolding(crate::specs::FormulaReading::atom))]
     fn parse(reader: &mut Reader, alloc: Global) -> Result<AtomTree, SyntaxError> {
-        let name = reader.name(alloc)?;
-        let args = arguments(reader, alloc)?;
+        let name = reader.expect_name(alloc)?;
+        let args = parse_arguments(reader, alloc)?;
         Ok(AtomTree { name, args })
     }
 }
 
 #[tactic(auto, unfolding(crate::specs::FormulaReading::group))]
-pub fn group(reader: &mut Reader, alloc: Global) -> Result<GroupTree, SyntaxError>
+pub fn parse_group(reader: &mut Reader, alloc: Global) -> Result<GroupTree, SyntaxError>
     ensures { Gives reading.group reader.old result reader.new }
 {
     if reader.sees(Terminal::All) {
@@ -74,13 +71,13 @@ pub fn group(reader: &mut Reader, alloc: Global) -> Result<GroupTree, SyntaxErro
         Ok(GroupTree::All { token })
     } else {
         let token = reader.expect(Terminal::OpenBrace)?;
-        let names = zero_or_more(reader, alloc)?;
+        let names = parse_any_listed(reader, alloc)?;
         reader.expect(Terminal::CloseBrace)?;
         Ok(GroupTree::Members { token, names })
     }
 }
 
-impl Parse for ParamTree {
+impl Parse<TaskLanguage> for ParamTree {
     ghost use Rattle.ep_syntax.specs.FormulaReading.{param};
     ghost use Rattle.ep_tree.specs.Terminals.{is_name};
 
@@ -94,20 +91,20 @@ impl Parse for ParamTree {
 
     #[tactic(auto, unfolding(crate::specs::FormulaReading::param))]
     fn parse(reader: &mut Reader, alloc: Global) -> Result<ParamTree, SyntaxError> {
-        let name = reader.name(alloc)?;
+        let name = reader.expect_name(alloc)?;
         reader.expect(Terminal::Colon)?;
-        let kind = reader.name(alloc)?;
+        let kind = reader.expect_name(alloc)?;
         Ok(ParamTree { name, kind })
     }
 }
 
 /// Parameters in parentheses.
 #[tactic(auto, unfolding(crate::specs::FormulaReading::params))]
-pub fn params(reader: &mut Reader, alloc: Global) -> Result<List<ParamTree>, SyntaxError>
+pub fn parse_params(reader: &mut Reader, alloc: Global) -> Result<List<ParamTree>, SyntaxError>
     ensures { Gives reading.params reader.old result reader.new }
 {
     reader.expect(Terminal::OpenParen)?;
-    let params = one_or_more(reader, alloc)?;
+    let params = parse_listed(reader, alloc)?;
     reader.expect(Terminal::CloseParen)?;
     Ok(params)
 }

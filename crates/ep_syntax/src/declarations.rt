@@ -1,18 +1,17 @@
 //! Readers of the types, objects and fluents of a task.
 
 ghost use Rattle.std.specs.Prelude.{◌≡◌};
-ghost use Rattle.ep_syntax.specs.Gives.{Gives};
+ghost use Rattle.ep_reader.specs.Gives.{Gives};
 ghost use Rattle.ep_syntax.specs.TaskReading as reading;
 
-use crate::atom::arguments;
-use crate::error::SyntaxError;
-use crate::parse::{Parse, braced_each, one_or_more};
-use crate::reader::Reader;
+use crate::atom::parse_arguments;
+use crate::language::TaskLanguage;
 use ep_base::List;
+use ep_reader::{Parse, Reader, SyntaxError, parse_braced_each, parse_listed};
 use ep_tree::{FluentTree, ObjectTree, Terminal, TypeTree};
 use std::alloc::Global;
 
-impl Parse for TypeTree {
+impl Parse<TaskLanguage> for TypeTree {
     ghost use Rattle.ep_tree.specs.Terminals.{is_name};
     ghost use Rattle.ep_syntax.specs.TaskReading.{type_entry};
 
@@ -26,9 +25,9 @@ impl Parse for TypeTree {
 
     #[tactic(auto, unfolding(crate::specs::TaskReading::type_entry))]
     fn parse(reader: &mut Reader, alloc: Global) -> Result<TypeTree, SyntaxError> {
-        let name = reader.name(alloc)?;
+        let name = reader.expect_name(alloc)?;
         reader.expect(Terminal::Less)?;
-        let parent = reader.name(alloc)?;
+        let parent = reader.expect_name(alloc)?;
         reader.expect(Terminal::Semicolon)?;
         Ok(TypeTree { name, parent })
     }
@@ -36,19 +35,22 @@ impl Parse for TypeTree {
 
 /// The part `types`, if it is written.
 #[tactic(auto, unfolding(crate::specs::TaskReading::types))]
-pub fn types(reader: &mut Reader, alloc: Global) -> Result<Option<List<TypeTree>>, SyntaxError>
+pub fn parse_types(
+    reader: &mut Reader,
+    alloc: Global,
+) -> Result<Option<List<TypeTree>>, SyntaxError>
     ensures { Gives reading.types reader.old result reader.new }
 {
     if reader.sees(Terminal::Types) {
         reader.expect(Terminal::Types)?;
-        let types = braced_each(reader, alloc)?;
+        let types = parse_braced_each(reader, alloc)?;
         Ok(Some(types))
     } else {
         Ok(None)
     }
 }
 
-impl Parse for ObjectTree {
+impl Parse<TaskLanguage> for ObjectTree {
     ghost use Rattle.ep_tree.specs.Terminals.{is_name};
     ghost use Rattle.ep_syntax.specs.TaskReading.{object_entry};
 
@@ -62,23 +64,23 @@ impl Parse for ObjectTree {
 
     #[tactic(auto, unfolding(crate::specs::TaskReading::object_entry))]
     fn parse(reader: &mut Reader, alloc: Global) -> Result<ObjectTree, SyntaxError> {
-        let names = one_or_more(reader, alloc)?;
+        let names = parse_listed(reader, alloc)?;
         reader.expect(Terminal::Colon)?;
-        let kind = reader.name(alloc)?;
+        let kind = reader.expect_name(alloc)?;
         reader.expect(Terminal::Semicolon)?;
         Ok(ObjectTree { names, kind })
     }
 }
 
 #[tactic(auto, unfolding(crate::specs::TaskReading::objects))]
-pub fn objects(reader: &mut Reader, alloc: Global) -> Result<List<ObjectTree>, SyntaxError>
+pub fn parse_objects(reader: &mut Reader, alloc: Global) -> Result<List<ObjectTree>, SyntaxError>
     ensures { Gives reading.objects reader.old result reader.new }
 {
     reader.expect(Terminal::Objects)?;
-    braced_each(reader, alloc)
+    parse_braced_each(reader, alloc)
 }
 
-impl Parse for FluentTree {
+impl Parse<TaskLanguage> for FluentTree {
     ghost use Rattle.ep_tree.specs.Terminals.{is_name};
     ghost use Rattle.ep_syntax.specs.TaskReading.{fluent_entry};
 
@@ -92,17 +94,17 @@ impl Parse for FluentTree {
 
     #[tactic(auto, unfolding(crate::specs::TaskReading::fluent_entry))]
     fn parse(reader: &mut Reader, alloc: Global) -> Result<FluentTree, SyntaxError> {
-        let name = reader.name(alloc)?;
-        let kinds = arguments(reader, alloc)?;
+        let name = reader.expect_name(alloc)?;
+        let kinds = parse_arguments(reader, alloc)?;
         reader.expect(Terminal::Semicolon)?;
         Ok(FluentTree { name, kinds })
     }
 }
 
 #[tactic(auto, unfolding(crate::specs::TaskReading::fluents))]
-pub fn fluents(reader: &mut Reader, alloc: Global) -> Result<List<FluentTree>, SyntaxError>
+pub fn parse_fluents(reader: &mut Reader, alloc: Global) -> Result<List<FluentTree>, SyntaxError>
     ensures { Gives reading.fluents reader.old result reader.new }
 {
     reader.expect(Terminal::Fluents)?;
-    braced_each(reader, alloc)
+    parse_braced_each(reader, alloc)
 }

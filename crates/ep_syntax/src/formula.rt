@@ -2,16 +2,15 @@
 
 ghost use Rattle.std.specs.Prelude.{◌≡◌, ◌≤◌, ◌∷◌, ◌==◌, drop};
 ghost use Rattle.ep_syntax.specs.FormulaReading as reading;
-ghost use Rattle.ep_syntax.specs.Gives.{Gives, Stops};
-ghost use Rattle.ep_syntax.specs.Reading.{heads, key, name, seq, behind_key, made};
+ghost use Rattle.ep_reader.specs.Gives.{Gives, Stops};
+ghost use Rattle.ep_reader.specs.Reading.{heads, key, name, seq, behind_key, made};
 ghost use Rattle.ep_tree.specs.declared.terminal.Terminal.TheVariants as the;
 
-use crate::atom::{group, params};
-use crate::error::SyntaxError;
-use crate::parse::Parse;
-use crate::reader::Reader;
+use crate::atom::{parse_group, parse_params};
+use crate::language::TaskLanguage;
 use ep_base::{Boxed, List};
-use ep_tree::{AtomTree, FormulaTree, Terminal};
+use ep_reader::{Parse, Reader, SyntaxError};
+use ep_tree::{AtomTree, FormulaTree, MOST_NESTING, Terminal};
 use std::alloc::Global;
 
 const STARTERS: [Terminal; 8] = [
@@ -35,14 +34,14 @@ fn starter_of(text: &[u8]) -> Option<Terminal>
 fn starter(reader: &Reader) -> Option<Terminal>
     ensures { result ≡ reading.starter reader.now.1 }
 {
-    match reader.text() {
+    match reader.next_text() {
         Some(text) => starter_of(text),
         None => None,
     }
 }
 
 fn starts_formula(reader: &Reader) -> bool
-    ensures { result ≡ reading.starts_formula reader.now.1 }
+    ensures { result ≡ heads reading.starts_formula reader.now.1 }
 {
     reader.sees_name() || starter(reader).is_some()
 }
@@ -63,20 +62,20 @@ fn follows(reader: &Reader) -> bool
 }
 
 #[tactic(auto, unfolding(crate::specs::FormulaReading::equality))]
-fn equality(reader: &mut Reader, alloc: Global) -> Result<FormulaTree, SyntaxError>
+fn parse_equality(reader: &mut Reader, alloc: Global) -> Result<FormulaTree, SyntaxError>
     ensures { Gives reading.equality reader.old result reader.new }
 {
     let token = reader.expect(Terminal::OpenParen)?;
-    let left = reader.name(alloc)?;
+    let left = reader.expect_name(alloc)?;
     reader.expect(Terminal::Equals)?;
-    let right = reader.name(alloc)?;
+    let right = reader.expect_name(alloc)?;
     reader.expect(Terminal::CloseParen)?;
     Ok(FormulaTree::Equal { token, left, right })
 }
 
 // `terminal formula`
 #[cycle(formula)]
-fn part(
+fn parse_part(
     reader: &mut Reader,
     alloc: Global,
     depth: u32,
@@ -85,12 +84,12 @@ fn part(
     ensures { Gives (behind_key terminal (reading.formula depth)) reader.old result reader.new }
 {
     reader.expect(terminal)?;
-    formula(reader, alloc, depth)
+    parse_formula(reader, alloc, depth)
 }
 
 // `terminal formula { terminal formula }`, behind a first formula.
 #[cycle(formula)]
-fn parts(
+fn parse_parts(
     reader: &mut Reader,
     alloc: Global,
     depth: u32,
@@ -101,13 +100,13 @@ fn parts(
 {
     let mut parts = List::new(alloc);
     parts.push(first)?;
-    let second = part(reader, alloc, depth, terminal)?;
+    let second = parse_part(reader, alloc, depth, terminal)?;
     parts.push(second)?;
-    for _ in 0..reader.left() {
+    for _ in 0..reader.tokens_left() {
         if !reader.sees(terminal) {
             break;
         }
-        let next = part(reader, alloc, depth, terminal)?;
+        let next = parse_part(reader, alloc, depth, terminal)?;
         parts.push(next)?;
     }
     Ok(parts)
@@ -115,7 +114,7 @@ fn parts(
 
 // The same, and the closing parenthesis.
 #[cycle(formula)]
-fn closed_parts(
+fn parse_closed_parts(
     reader: &mut Reader,
     alloc: Global,
     depth: u32,
@@ -124,14 +123,14 @@ fn closed_parts(
 ) -> Result<List<FormulaTree>, SyntaxError>
     ensures { Gives (λ n ts. made (λ p. first ∷ p.0) (reading.joined terminal (reading.formula depth) n ts)) reader.old result reader.new }
 {
-    let parts = parts(reader, alloc, depth, terminal, first)?;
+    let parts = parse_parts(reader, alloc, depth, terminal, first)?;
     reader.expect(Terminal::CloseParen)?;
     Ok(parts)
 }
 
 #[cycle(formula)]
 #[tactic(auto, unfolding(crate::specs::FormulaReading::tail))]
-fn tail(
+fn parse_tail(
     reader: &mut Reader,
     alloc: Global,
     depth: u32,
@@ -141,10 +140,10 @@ fn tail(
     ensures { Gives (λ n ts. made (reading.with_tail token first) (reading.tail (reading.formula depth) n ts)) reader.old result reader.new }
 {
     if reader.sees(Terminal::And) {
-        let parts = closed_parts(reader, alloc, depth, Terminal::And, first)?;
+        let parts = parse_closed_parts(reader, alloc, depth, Terminal::And, first)?;
         Ok(FormulaTree::And { token, parts })
     } else if reader.sees(Terminal::Or) {
-        let parts = closed_parts(reader, alloc, depth, Terminal::Or, first)?;
+        let parts = parse_closed_parts(reader, alloc, depth, Terminal::Or, first)?;
         Ok(FormulaTree::Or { token, parts })
     } else {
         reader.expect(Terminal::CloseParen)?;
@@ -155,16 +154,16 @@ fn tail(
 
 #[cycle(formula)]
 #[tactic(auto, unfolding(crate::specs::FormulaReading::inside))]
-fn inside(reader: &mut Reader, alloc: Global, depth: u32) -> Result<FormulaTree, SyntaxError>
+fn parse_inside(reader: &mut Reader, alloc: Global, depth: u32) -> Result<FormulaTree, SyntaxError>
     ensures { Gives (reading.inside (reading.formula depth)) reader.old result reader.new }
 {
     let token = reader.expect(Terminal::OpenParen)?;
-    let first = formula(reader, alloc, depth)?;
-    tail(reader, alloc, depth, token, first)
+    let first = parse_formula(reader, alloc, depth)?;
+    parse_tail(reader, alloc, depth, token, first)
 }
 
 // Why no name stands here, behind a parenthesis, where no nesting is left.
-fn deep_name(reader: &Reader) -> SyntaxError
+fn refusal_of_name(reader: &Reader) -> SyntaxError
     ensures { Stops result (reading.deep_name reader.now.0 reader.now.1) }
 {
     let token = reader.place();
@@ -177,35 +176,43 @@ fn deep_name(reader: &Reader) -> SyntaxError
 
 #[cycle(formula)]
 #[tactic(auto, unfolding(crate::specs::FormulaReading::opened))]
-fn opened(reader: &mut Reader, alloc: Global, depth: u32) -> Result<FormulaTree, SyntaxError>
+fn parse_opened(reader: &mut Reader, alloc: Global, depth: u32) -> Result<FormulaTree, SyntaxError>
     ensures { Gives (reading.opened (depth == 0) (reading.formula depth)) reader.old result reader.new }
 {
     if is_equality(reader) {
-        equality(reader, alloc)
+        parse_equality(reader, alloc)
     } else if depth == 0 && reader.sees_name_at(1) {
-        Err(deep_name(reader))
+        Err(refusal_of_name(reader))
     } else {
-        inside(reader, alloc, depth)
+        parse_inside(reader, alloc, depth)
     }
 }
 
 #[cycle(formula)]
-fn negation(reader: &mut Reader, alloc: Global, depth: u32) -> Result<FormulaTree, SyntaxError>
+fn parse_negation(
+    reader: &mut Reader,
+    alloc: Global,
+    depth: u32,
+) -> Result<FormulaTree, SyntaxError>
     ensures { Gives (λ n ts. made reading.not_of (seq (key the.Not n ts) (reading.formula depth))) reader.old result reader.new }
 {
     let token = reader.expect(Terminal::Not)?;
-    let inner = formula(reader, alloc, depth)?;
+    let inner = parse_formula(reader, alloc, depth)?;
     let inner = Boxed::new(alloc, inner)?;
     Ok(FormulaTree::Not { token, inner })
 }
 
 #[cycle(formula)]
-fn knowledge(reader: &mut Reader, alloc: Global, depth: u32) -> Result<FormulaTree, SyntaxError>
+fn parse_knowledge(
+    reader: &mut Reader,
+    alloc: Global,
+    depth: u32,
+) -> Result<FormulaTree, SyntaxError>
     ensures { Gives (λ n ts. made reading.knows_of (seq (seq (key the.Knows n ts) name) (reading.formula depth))) reader.old result reader.new }
 {
     let token = reader.expect(Terminal::Knows)?;
-    let agent = reader.name(alloc)?;
-    let inner = formula(reader, alloc, depth)?;
+    let agent = reader.expect_name(alloc)?;
+    let inner = parse_formula(reader, alloc, depth)?;
     let inner = Boxed::new(alloc, inner)?;
     Ok(FormulaTree::Knows {
         token,
@@ -215,7 +222,7 @@ fn knowledge(reader: &mut Reader, alloc: Global, depth: u32) -> Result<FormulaTr
 }
 
 #[cycle(formula)]
-fn common_knowledge(
+fn parse_common_knowledge(
     reader: &mut Reader,
     alloc: Global,
     depth: u32,
@@ -223,8 +230,8 @@ fn common_knowledge(
     ensures { Gives (λ n ts. made reading.common_of (seq (seq (key the.Common n ts) reading.group) (reading.formula depth))) reader.old result reader.new }
 {
     let token = reader.expect(Terminal::Common)?;
-    let group = group(reader, alloc)?;
-    let inner = formula(reader, alloc, depth)?;
+    let group = parse_group(reader, alloc)?;
+    let inner = parse_formula(reader, alloc, depth)?;
     let inner = Boxed::new(alloc, inner)?;
     Ok(FormulaTree::Common {
         token,
@@ -234,12 +241,16 @@ fn common_knowledge(
 }
 
 #[cycle(formula)]
-fn universal(reader: &mut Reader, alloc: Global, depth: u32) -> Result<FormulaTree, SyntaxError>
+fn parse_universal(
+    reader: &mut Reader,
+    alloc: Global,
+    depth: u32,
+) -> Result<FormulaTree, SyntaxError>
     ensures { Gives (λ n ts. made reading.forall_of (seq (seq (key the.Forall n ts) reading.params) (reading.formula depth))) reader.old result reader.new }
 {
     let token = reader.expect(Terminal::Forall)?;
-    let params = params(reader, alloc)?;
-    let inner = formula(reader, alloc, depth)?;
+    let params = parse_params(reader, alloc)?;
+    let inner = parse_formula(reader, alloc, depth)?;
     let inner = Boxed::new(alloc, inner)?;
     Ok(FormulaTree::Forall {
         token,
@@ -249,12 +260,16 @@ fn universal(reader: &mut Reader, alloc: Global, depth: u32) -> Result<FormulaTr
 }
 
 #[cycle(formula)]
-fn existential(reader: &mut Reader, alloc: Global, depth: u32) -> Result<FormulaTree, SyntaxError>
+fn parse_existential(
+    reader: &mut Reader,
+    alloc: Global,
+    depth: u32,
+) -> Result<FormulaTree, SyntaxError>
     ensures { Gives (λ n ts. made reading.exists_of (seq (seq (key the.Exists n ts) reading.params) (reading.formula depth))) reader.old result reader.new }
 {
     let token = reader.expect(Terminal::Exists)?;
-    let params = params(reader, alloc)?;
-    let inner = formula(reader, alloc, depth)?;
+    let params = parse_params(reader, alloc)?;
+    let inner = parse_formula(reader, alloc, depth)?;
     let inner = Boxed::new(alloc, inner)?;
     Ok(FormulaTree::Exists {
         token,
@@ -266,7 +281,11 @@ fn existential(reader: &mut Reader, alloc: Global, depth: u32) -> Result<Formula
 // A formula whose parts have at most so many nestings.
 #[cycle(formula)]
 #[tactic(auto, unfolding(crate::specs::FormulaReading::by_token))]
-fn by_token(reader: &mut Reader, alloc: Global, depth: u32) -> Result<FormulaTree, SyntaxError>
+fn parse_by_token(
+    reader: &mut Reader,
+    alloc: Global,
+    depth: u32,
+) -> Result<FormulaTree, SyntaxError>
     ensures { Gives (reading.by_token (depth == 0) (reading.formula depth)) reader.old result reader.new }
 {
     if reader.sees_name() {
@@ -282,29 +301,45 @@ fn by_token(reader: &mut Reader, alloc: Global, depth: u32) -> Result<FormulaTre
             let token = reader.expect(Terminal::False)?;
             Ok(FormulaTree::False { token })
         }
-        Some(Terminal::Not) => negation(reader, alloc, depth),
-        Some(Terminal::Knows) => knowledge(reader, alloc, depth),
-        Some(Terminal::Common) => common_knowledge(reader, alloc, depth),
-        Some(Terminal::Forall) => universal(reader, alloc, depth),
-        Some(Terminal::Exists) => existential(reader, alloc, depth),
-        Some(Terminal::OpenParen) => opened(reader, alloc, depth),
+        Some(Terminal::Not) => parse_negation(reader, alloc, depth),
+        Some(Terminal::Knows) => parse_knowledge(reader, alloc, depth),
+        Some(Terminal::Common) => parse_common_knowledge(reader, alloc, depth),
+        Some(Terminal::Forall) => parse_universal(reader, alloc, depth),
+        Some(Terminal::Exists) => parse_existential(reader, alloc, depth),
+        Some(Terminal::OpenParen) => parse_opened(reader, alloc, depth),
         _ => Err(SyntaxError::Syntax {
             token: reader.place(),
         }),
     }
 }
 
-/// A formula of so many nestings at most.
+// A formula of so many nestings at most.
 #[cycle(formula)]
-pub fn formula(reader: &mut Reader, alloc: Global, depth: u32) -> Result<FormulaTree, SyntaxError>
+fn parse_formula(reader: &mut Reader, alloc: Global, depth: u32) -> Result<FormulaTree, SyntaxError>
     ensures { Gives (reading.formula depth) reader.old result reader.new }
 {
     let token = reader.place();
     if depth > 0 {
-        by_token(reader, alloc, depth - 1)
+        parse_by_token(reader, alloc, depth - 1)
     } else if starts_formula(reader) {
         Err(SyntaxError::TooDeep { token })
     } else {
         Err(SyntaxError::Syntax { token })
+    }
+}
+
+impl Parse<TaskLanguage> for FormulaTree {
+    ghost use Rattle.ep_syntax.specs.FormulaReading.{outer_formula, starts_formula};
+
+    ghost starts = { starts_formula };
+
+    ghost reads = { outer_formula };
+
+    fn begins(reader: &Reader) -> bool {
+        starts_formula(reader)
+    }
+
+    fn parse(reader: &mut Reader, alloc: Global) -> Result<FormulaTree, SyntaxError> {
+        parse_formula(reader, alloc, MOST_NESTING)
     }
 }

@@ -1,34 +1,25 @@
 //! Readers of the initial state of a task.
 
 ghost use Rattle.std.specs.Prelude.{◌≡◌};
-ghost use Rattle.ep_syntax.specs.Gives.{Gives};
+ghost use Rattle.ep_reader.specs.Gives.{Gives};
 ghost use Rattle.ep_syntax.specs.TaskReading as reading;
-ghost use Rattle.ep_syntax.specs.Reading.{each, within};
+ghost use Rattle.ep_reader.specs.Reading.{each, within};
 ghost use Rattle.ep_tree.specs.declared.terminal.Terminal.TheVariants as the;
 
-use crate::atom::group;
-use crate::error::SyntaxError;
-use crate::formula::formula;
-use crate::parse::{Parse, braced_list, each_of, one_or_more, some_of};
-use crate::reader::Reader;
+use crate::atom::parse_group;
+use crate::language::TaskLanguage;
 use ep_base::List;
+use ep_reader::{
+    Parse, Reader, SyntaxError, parse_braced_listed, parse_each, parse_listed, parse_some_each,
+};
 use ep_tree::{
     AtomTree, FormulaTree, InitTree, LinkTree, Name, PairTree, PairsTree, SeesTree, Terminal,
     WorldTree,
 };
 use std::alloc::Global;
 
-const MOST_NESTING: u32 = 64;
-
-/// A formula that stands in no other.
-pub fn outer_formula(reader: &mut Reader, alloc: Global) -> Result<FormulaTree, SyntaxError>
-    ensures { Gives reading.outer_formula reader.old result reader.new }
-{
-    formula(reader, alloc, MOST_NESTING)
-}
-
 /// `left formula ';'`
-pub fn statement(
+pub fn parse_statement(
     reader: &mut Reader,
     alloc: Global,
     left: Terminal,
@@ -36,12 +27,12 @@ pub fn statement(
     ensures { Gives (reading.statement left) reader.old result reader.new }
 {
     reader.expect(left)?;
-    let formula = outer_formula(reader, alloc)?;
+    let formula = FormulaTree::parse(reader, alloc)?;
     reader.expect(Terminal::Semicolon)?;
     Ok(formula)
 }
 
-impl Parse for PairTree {
+impl Parse<TaskLanguage> for PairTree {
     ghost use Rattle.ep_tree.specs.Terminals.{is_name};
     ghost use Rattle.ep_syntax.specs.TaskReading.{pair};
 
@@ -55,15 +46,15 @@ impl Parse for PairTree {
 
     #[tactic(auto, unfolding(crate::specs::TaskReading::pair))]
     fn parse(reader: &mut Reader, alloc: Global) -> Result<PairTree, SyntaxError> {
-        let from = reader.name(alloc)?;
+        let from = reader.expect_name(alloc)?;
         reader.expect(Terminal::Arrow)?;
-        let to = reader.name(alloc)?;
+        let to = reader.expect_name(alloc)?;
         Ok(PairTree { from, to })
     }
 }
 
 #[tactic(auto, unfolding(crate::specs::TaskReading::pairs))]
-fn pairs(reader: &mut Reader, alloc: Global) -> Result<PairsTree, SyntaxError>
+fn parse_pairs(reader: &mut Reader, alloc: Global) -> Result<PairsTree, SyntaxError>
     ensures { Gives reading.pairs reader.old result reader.new }
 {
     if reader.sees(Terminal::All) {
@@ -73,12 +64,12 @@ fn pairs(reader: &mut Reader, alloc: Global) -> Result<PairsTree, SyntaxError>
         reader.expect(Terminal::Same)?;
         Ok(PairsTree::Same)
     } else {
-        let pairs = braced_list(reader, alloc)?;
+        let pairs = parse_braced_listed(reader, alloc)?;
         Ok(PairsTree::Listed(pairs))
     }
 }
 
-impl Parse for LinkTree {
+impl Parse<TaskLanguage> for LinkTree {
     ghost use Rattle.ep_tree.specs.Terminals.{is};
     ghost use Rattle.ep_syntax.specs.TaskReading.{link};
     ghost use Rattle.ep_tree.specs.declared.terminal.Terminal.TheVariants as the;
@@ -94,8 +85,8 @@ impl Parse for LinkTree {
     #[tactic(auto, unfolding(crate::specs::TaskReading::link))]
     fn parse(reader: &mut Reader, alloc: Global) -> Result<LinkTree, SyntaxError> {
         reader.expect(Terminal::Links)?;
-        let group = group(reader, alloc)?;
-        let pairs = pairs(reader, alloc)?;
+        let group = parse_group(reader, alloc)?;
+        let pairs = parse_pairs(reader, alloc)?;
         reader.expect(Terminal::Semicolon)?;
         Ok(LinkTree { group, pairs })
     }
@@ -103,17 +94,17 @@ impl Parse for LinkTree {
 
 /// `'designated' '{' names '}'`
 #[tactic(auto, unfolding(crate::specs::TaskReading::designated))]
-pub fn designated(reader: &mut Reader, alloc: Global) -> Result<List<Name>, SyntaxError>
+pub fn parse_designated(reader: &mut Reader, alloc: Global) -> Result<List<Name>, SyntaxError>
     ensures { Gives reading.designated reader.old result reader.new }
 {
     reader.expect(Terminal::Designated)?;
     reader.expect(Terminal::OpenBrace)?;
-    let names = one_or_more(reader, alloc)?;
+    let names = parse_listed(reader, alloc)?;
     reader.expect(Terminal::CloseBrace)?;
     Ok(names)
 }
 
-impl Parse for WorldTree {
+impl Parse<TaskLanguage> for WorldTree {
     ghost use Rattle.ep_tree.specs.Terminals.{is};
     ghost use Rattle.ep_syntax.specs.TaskReading.{world};
     ghost use Rattle.ep_tree.specs.declared.terminal.Terminal.TheVariants as the;
@@ -129,19 +120,19 @@ impl Parse for WorldTree {
     #[tactic(auto, unfolding(crate::specs::TaskReading::world))]
     fn parse(reader: &mut Reader, alloc: Global) -> Result<WorldTree, SyntaxError> {
         reader.expect(Terminal::World)?;
-        let name = reader.name(alloc)?;
-        let atoms = braced_list(reader, alloc)?;
+        let name = reader.expect_name(alloc)?;
+        let atoms = parse_braced_listed(reader, alloc)?;
         Ok(WorldTree { name, atoms })
     }
 }
 
 #[tactic(auto, unfolding(crate::specs::TaskReading::explicit))]
-fn explicit(reader: &mut Reader, alloc: Global) -> Result<InitTree, SyntaxError>
+fn parse_explicit(reader: &mut Reader, alloc: Global) -> Result<InitTree, SyntaxError>
     ensures { Gives reading.explicit reader.old result reader.new }
 {
-    let worlds = some_of(reader, alloc)?;
-    let designated = designated(reader, alloc)?;
-    let links = each_of(reader, alloc)?;
+    let worlds = parse_some_each(reader, alloc)?;
+    let designated = parse_designated(reader, alloc)?;
+    let links = parse_each(reader, alloc)?;
     Ok(InitTree::Explicit {
         worlds,
         designated,
@@ -150,19 +141,19 @@ fn explicit(reader: &mut Reader, alloc: Global) -> Result<InitTree, SyntaxError>
 }
 
 #[tactic(auto, unfolding(crate::specs::TaskReading::facts))]
-fn facts(reader: &mut Reader, alloc: Global) -> Result<Option<List<AtomTree>>, SyntaxError>
+fn parse_facts(reader: &mut Reader, alloc: Global) -> Result<Option<List<AtomTree>>, SyntaxError>
     ensures { Gives reading.facts reader.old result reader.new }
 {
     if reader.sees(Terminal::Facts) {
         reader.expect(Terminal::Facts)?;
-        let facts = braced_list(reader, alloc)?;
+        let facts = parse_braced_listed(reader, alloc)?;
         Ok(Some(facts))
     } else {
         Ok(None)
     }
 }
 
-impl Parse for SeesTree {
+impl Parse<TaskLanguage> for SeesTree {
     ghost use Rattle.ep_tree.specs.Terminals.{is};
     ghost use Rattle.ep_syntax.specs.TaskReading.{sees};
     ghost use Rattle.ep_tree.specs.declared.terminal.Terminal.TheVariants as the;
@@ -178,22 +169,22 @@ impl Parse for SeesTree {
     #[tactic(auto, unfolding(crate::specs::TaskReading::sees))]
     fn parse(reader: &mut Reader, alloc: Global) -> Result<SeesTree, SyntaxError> {
         reader.expect(Terminal::Sees)?;
-        let group = group(reader, alloc)?;
-        let atoms = braced_list(reader, alloc)?;
+        let group = parse_group(reader, alloc)?;
+        let atoms = parse_braced_listed(reader, alloc)?;
         Ok(SeesTree { group, atoms })
     }
 }
 
 #[tactic(auto, unfolding(crate::specs::TaskReading::lawful))]
-fn lawful(reader: &mut Reader, alloc: Global) -> Result<InitTree, SyntaxError>
+fn parse_lawful(reader: &mut Reader, alloc: Global) -> Result<InitTree, SyntaxError>
     ensures { Gives reading.lawful reader.old result reader.new }
 {
     reader.expect(Terminal::Vary)?;
-    let vary = braced_list(reader, alloc)?;
-    let facts = facts(reader, alloc)?;
-    let law = statement(reader, alloc, Terminal::Law)?;
-    let sees = each_of(reader, alloc)?;
-    let designated = statement(reader, alloc, Terminal::Designated)?;
+    let vary = parse_braced_listed(reader, alloc)?;
+    let facts = parse_facts(reader, alloc)?;
+    let law = parse_statement(reader, alloc, Terminal::Law)?;
+    let sees = parse_each(reader, alloc)?;
+    let designated = parse_statement(reader, alloc, Terminal::Designated)?;
     Ok(InitTree::Lawful {
         vary,
         facts,
@@ -204,23 +195,23 @@ fn lawful(reader: &mut Reader, alloc: Global) -> Result<InitTree, SyntaxError>
 }
 
 #[tactic(auto, unfolding(crate::specs::TaskReading::init_items))]
-fn init_items(reader: &mut Reader, alloc: Global) -> Result<InitTree, SyntaxError>
+fn parse_init_items(reader: &mut Reader, alloc: Global) -> Result<InitTree, SyntaxError>
     ensures { Gives reading.init_items reader.old result reader.new }
 {
     if reader.sees(Terminal::Vary) {
-        lawful(reader, alloc)
+        parse_lawful(reader, alloc)
     } else {
-        explicit(reader, alloc)
+        parse_explicit(reader, alloc)
     }
 }
 
 #[tactic(auto, unfolding(crate::specs::TaskReading::init))]
-pub fn init(reader: &mut Reader, alloc: Global) -> Result<InitTree, SyntaxError>
+pub fn parse_init(reader: &mut Reader, alloc: Global) -> Result<InitTree, SyntaxError>
     ensures { Gives reading.init reader.old result reader.new }
 {
     reader.expect(Terminal::Init)?;
     reader.expect(Terminal::OpenBrace)?;
-    let init = init_items(reader, alloc)?;
+    let init = parse_init_items(reader, alloc)?;
     reader.expect(Terminal::CloseBrace)?;
     Ok(init)
 }

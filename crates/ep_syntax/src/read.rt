@@ -1,74 +1,18 @@
 //! The readers of whole texts.
 
-ghost use Rattle.std.specs.Prelude.{◌≡◌, ℕ, IfOk, Ok, Err, IsOkUnless};
+ghost use Rattle.std.specs.Prelude.{◌≡◌, ◌≤◌, ℕ, Err, length};
 ghost use Rattle.ep_lex.specs.Tokens.{AreTokens, spellings};
-ghost use Rattle.ep_syntax.specs.Answers.{RefusesWith};
-ghost use Rattle.ep_syntax.specs.FormulaReading.{whole_formula as formula_reading};
-ghost use Rattle.ep_syntax.specs.TaskReading as reading;
-ghost use Rattle.ep_syntax.specs.Gives.{Gives, Says};
-ghost use Rattle.ep_tree.specs.Grammar.{Reads, IsOnly, SyntaxAt, DeepAt, formulas, tasks};
-ghost use Rattle.ep_syntax.specs.declared.error.SyntaxError.TheVariants.{Syntax, TooDeep, OutOfMemory};
-ghost use Rattle.ep_tree.specs.declared.tree.FormulaTree.{FormulaTree};
-ghost use Rattle.ep_tree.specs.declared.tree.TaskTree.{TaskTree};
+ghost use Rattle.ep_lex.specs.declared.limits.TheConstants.{MOST_BYTES};
+ghost use Rattle.ep_reader.specs.Answers.{IsReadBy};
+ghost use Rattle.ep_reader.specs.Texts.{IsParsedBy};
+ghost use Rattle.ep_reader.specs.declared.text.TextError.TheVariants as text_error;
+ghost use Rattle.ep_tree.specs.Grammar.{DeepAt, formulas, plans, tasks};
+ghost use Rattle.ep_reader.specs.declared.error.SyntaxError.TheVariants.{TooDeep};
 
-use crate::declarations::{fluents, objects, types};
-use crate::error::SyntaxError;
-use crate::initial::{init, outer_formula, statement};
-use crate::parse::each_of;
-use crate::reader::Reader;
 use ep_lex::TokenList;
-use ep_tree::{FormulaTree, TaskTree, Terminal};
+use ep_reader::{ParsedText, SyntaxError, TextError, parse_text, parse_whole};
+use ep_tree::{FormulaTree, PlanTree, TaskTree};
 use std::alloc::Global;
-
-#[tactic(auto, unfolding(crate::specs::FormulaReading::whole_formula))]
-fn whole_formula(
-    alloc: Global,
-    bytes: &[u8],
-    tokens: &TokenList,
-) -> Result<FormulaTree, SyntaxError>
-    requires { AreTokens bytes.now tokens.now.tokens }
-    ensures { Says result (formula_reading 0 (spellings bytes.now tokens.now.tokens)) }
-{
-    let mut reader = Reader::new(bytes, tokens);
-    let tree = outer_formula(&mut reader, alloc)?;
-    reader.end()?;
-    Ok(tree)
-}
-
-#[tactic(auto, unfolding(crate::specs::TaskReading::task, crate::specs::TaskReading::declarations))]
-fn task(reader: &mut Reader, alloc: Global) -> Result<TaskTree, SyntaxError>
-    ensures { Gives reading.task reader.old result reader.new }
-{
-    reader.expect(Terminal::Task)?;
-    let name = reader.name(alloc)?;
-    reader.expect(Terminal::Semicolon)?;
-    let types = types(reader, alloc)?;
-    let objects = objects(reader, alloc)?;
-    let fluents = fluents(reader, alloc)?;
-    let init = init(reader, alloc)?;
-    let schemas = each_of(reader, alloc)?;
-    let goal = statement(reader, alloc, Terminal::Goal)?;
-    Ok(TaskTree {
-        name,
-        types,
-        objects,
-        fluents,
-        init,
-        schemas,
-        goal,
-    })
-}
-
-#[tactic(auto, unfolding(crate::specs::TaskReading::whole_task))]
-fn whole_task(alloc: Global, bytes: &[u8], tokens: &TokenList) -> Result<TaskTree, SyntaxError>
-    requires { AreTokens bytes.now tokens.now.tokens }
-    ensures { Says result (reading.whole_task 0 (spellings bytes.now tokens.now.tokens)) }
-{
-    let mut reader = Reader::new(bytes, tokens);
-    let tree = task(&mut reader, alloc)?;
-    reader.end()?;
-    Ok(tree)
-}
 
 /// A formula by itself. The tokens are those of the bytes.
 pub fn read_formula(
@@ -77,35 +21,54 @@ pub fn read_formula(
     tokens: &TokenList,
 ) -> Result<FormulaTree, SyntaxError>
     requires { AreTokens bytes.now tokens.now.tokens }
-
-    // What is read is a tree of the tokens, and there is no other but for token numbers.
-    ensures read { IfOk result (Reads formulas (spellings bytes.now tokens.now.tokens)) }
-    ensures only { IfOk result (IsOnly formulas (spellings bytes.now tokens.now.tokens)) }
-    ensures all_read { (tree : FormulaTree) → Reads formulas (spellings bytes.now tokens.now.tokens) tree → IsOkUnless result OutOfMemory }
-
-    // A refusal has its one place.
-    ensures syntax { (n : ℕ) → result ≡ Err (Syntax n) → SyntaxAt formulas (spellings bytes.now tokens.now.tokens) n }
-    ensures all_syntax { (n : ℕ) → SyntaxAt formulas (spellings bytes.now tokens.now.tokens) n → RefusesWith result (Syntax n) }
-    ensures deep { (t : ℕ) → result ≡ Err (TooDeep t) → DeepAt formulas (spellings bytes.now tokens.now.tokens) t }
-    ensures all_deep { (t : ℕ) → DeepAt formulas (spellings bytes.now tokens.now.tokens) t → RefusesWith result (TooDeep t) }
+    ensures { IsReadBy formulas (spellings bytes.now tokens.now.tokens) result }
 {
-    whole_formula(alloc, bytes, tokens)
+    parse_whole(alloc, bytes, tokens)
 }
 
 /// A task. The tokens are those of the bytes.
 pub fn read_task(alloc: Global, bytes: &[u8], tokens: &TokenList) -> Result<TaskTree, SyntaxError>
     requires { AreTokens bytes.now tokens.now.tokens }
-
-    // What is read is a tree of the tokens, and there is no other but for token numbers.
-    ensures read { IfOk result (Reads tasks (spellings bytes.now tokens.now.tokens)) }
-    ensures only { IfOk result (IsOnly tasks (spellings bytes.now tokens.now.tokens)) }
-    ensures all_read { (tree : TaskTree) → Reads tasks (spellings bytes.now tokens.now.tokens) tree → IsOkUnless result OutOfMemory }
-
-    // A refusal has its one place.
-    ensures syntax { (n : ℕ) → result ≡ Err (Syntax n) → SyntaxAt tasks (spellings bytes.now tokens.now.tokens) n }
-    ensures all_syntax { (n : ℕ) → SyntaxAt tasks (spellings bytes.now tokens.now.tokens) n → RefusesWith result (Syntax n) }
-    ensures deep { (t : ℕ) → result ≡ Err (TooDeep t) → DeepAt tasks (spellings bytes.now tokens.now.tokens) t }
-    ensures all_deep { (t : ℕ) → DeepAt tasks (spellings bytes.now tokens.now.tokens) t → RefusesWith result (TooDeep t) }
+    ensures { IsReadBy tasks (spellings bytes.now tokens.now.tokens) result }
 {
-    whole_task(alloc, bytes, tokens)
+    parse_whole(alloc, bytes, tokens)
+}
+
+/// A plan file. The tokens are those of the bytes. No formula stands in one, so nothing is ever too deep.
+pub fn read_plan_lines(
+    alloc: Global,
+    bytes: &[u8],
+    tokens: &TokenList,
+) -> Result<PlanTree, SyntaxError>
+    requires { AreTokens bytes.now tokens.now.tokens }
+    ensures read_by { IsReadBy plans (spellings bytes.now tokens.now.tokens) result }
+    ensures never_deep { (t : ℕ) → result ≡ Err (TooDeep t) → ⊥ }
+    ensures none_deep { (t : ℕ) → DeepAt plans (spellings bytes.now tokens.now.tokens) t → ⊥ }
+{
+    parse_whole(alloc, bytes, tokens)
+}
+
+/// A formula of bytes, by itself: its tokens and its tree, or the first fault of the text.
+pub fn read_formula_text(alloc: Global, bytes: &[u8]) -> Result<ParsedText<FormulaTree>, TextError>
+    requires { length bytes.now ≤ MOST_BYTES }
+    ensures { IsParsedBy formulas bytes.now result }
+{
+    parse_text(alloc, bytes)
+}
+
+/// A task of bytes: its tokens and its tree, or the first fault of the text.
+pub fn read_task_text(alloc: Global, bytes: &[u8]) -> Result<ParsedText<TaskTree>, TextError>
+    requires { length bytes.now ≤ MOST_BYTES }
+    ensures { IsParsedBy tasks bytes.now result }
+{
+    parse_text(alloc, bytes)
+}
+
+/// A plan file of bytes: its tokens and its tree, or the first fault of the text. Nothing in it is ever too deep.
+pub fn read_plan_text(alloc: Global, bytes: &[u8]) -> Result<ParsedText<PlanTree>, TextError>
+    requires { length bytes.now ≤ MOST_BYTES }
+    ensures parsed_by { IsParsedBy plans bytes.now result }
+    ensures never_deep { (token line : ℕ) → result ≡ Err (text_error.TooDeep token line) → ⊥ }
+{
+    parse_text(alloc, bytes)
 }

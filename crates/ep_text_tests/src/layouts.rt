@@ -2,7 +2,7 @@
 
 use crate::reading::task_tree;
 use ep_base::Text;
-use ep_syntax::print_task;
+use ep_layout::print_task;
 use std::alloc::Global;
 use std::process::Abort;
 use std::test::Fail;

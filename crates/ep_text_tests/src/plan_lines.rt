@@ -1,7 +1,8 @@
 //! Plan files as trees, and the tokens at which they are refused.
 
 use crate::reading::tokens_of;
-use ep_syntax::{SyntaxError, read_plan_lines};
+use ep_reader::SyntaxError;
+use ep_syntax::read_plan_lines;
 use ep_tree::{CallTree, PlanTree};
 use std::alloc::Global;
 use std::process::Abort;

@@ -2,6 +2,7 @@
 -- systems (2011). That a state may have several designated worlds is this project's own.
 use Rattle.std.specs.Prelude.{◌≤◌, List, length}
 use Rattle.std.specs.List.{AllByRecursion}
+use Rattle.ep_logic.specs.declared.limits.TheConstants.{MOST_INITIAL_WORLDS, MOST_AGENTS, MOST_ATOMS, MOST_GROUND_ACTIONS}
 use Rattle.ep_logic.specs.declared.formula.Node.{Node}
 use Rattle.ep_theory.specs.Kripke.{Kripke, IsState}
 use Rattle.ep_theory.specs.Events.{EventModel, IsAction}
@@ -21,7 +22,7 @@ pub record IsPlanningTask (T : PlanningTask) : Type 0 where
 
 -- at most 256 worlds and 1,024 actions
 pub record IsSmall (T : PlanningTask) : Type 0 where
-  pub worlds : T.initial.worlds ≤ 256
-  pub agents : T.initial.agents ≤ 8
-  pub atoms : T.initial.atoms ≤ 256
-  pub actions : length T.actions ≤ 1024
+  pub worlds : T.initial.worlds ≤ MOST_INITIAL_WORLDS
+  pub agents : T.initial.agents ≤ MOST_AGENTS
+  pub atoms : T.initial.atoms ≤ MOST_ATOMS
+  pub actions : length T.actions ≤ MOST_GROUND_ACTIONS

@@ -1,1 +1,3 @@
 pub mod MarkTexts
+pub mod NestingLemmas
+pub mod CallerLemmas

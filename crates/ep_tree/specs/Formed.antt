@@ -1,6 +1,6 @@
 -- Well-formed trees: each name is one, and the lists that the grammar makes non-empty are so.
 use Rattle.std.specs.Prelude.{ℕ, ◌<◌, ◌^◌, Bool, true, ◌&&◌, nat_le, length, List, [], ◌∷◌, IsTrue, IsFalse, IfSome}
-use Rattle.std.specs.List.{list_all}
+use Rattle.std.specs.List.{AllByRecursion, list_all}
 use Rattle.ep_tree.specs.declared.tree.Name.{Name}
 use Rattle.ep_tree.specs.declared.tree.TaskTree.{TaskTree}
 use Rattle.ep_tree.specs.declared.tree.TypeTree.{TypeTree}
@@ -30,15 +30,10 @@ use Rattle.ep_tree.specs.declared.tree.CallTree.{CallTree}
 use Rattle.ep_tree.specs.declared.tree.PlanTree.{PlanTree}
 use Rattle.ep_tree.specs.Terminals.{is_name}
 
--- each item is such
-abbrev pub Each : {A : Type 0} → (A → Type 0) → List A → Type 0
-Each P [] = Unit {0}
-Each P (x ∷ xs) = P x × Each P xs
-
 -- there is an item, and each is such
 abbrev pub OneOrMore : {A : Type 0} → (A → Type 0) → List A → Type 0
 OneOrMore P [] = ⊥
-OneOrMore P (x ∷ xs) = P x × Each P xs
+OneOrMore P (x ∷ xs) = P x × AllByRecursion P xs
 
 -- ---- names, atoms, groups, parameters
 
@@ -110,7 +105,7 @@ abbrev pub IsFormedObject : ObjectTree → Type 0
 IsFormedObject o = OneOrMore IsFormedName o.names × IsFormedName o.kind
 
 abbrev pub IsFormedFluent : FluentTree → Type 0
-IsFormedFluent f = IsFormedName f.name × Each IsFormedName f.kinds
+IsFormedFluent f = IsFormedName f.name × AllByRecursion IsFormedName f.kinds
 
 -- ---- the initial state
 
@@ -120,21 +115,21 @@ IsFormedPair p = IsFormedName p.from × IsFormedName p.to
 abbrev pub IsFormedPairs : PairsTree → Type 0
 IsFormedPairs pairs_tree.All = Unit {0}
 IsFormedPairs pairs_tree.Same = Unit {0}
-IsFormedPairs (pairs_tree.Listed ps) = Each IsFormedPair ps
+IsFormedPairs (pairs_tree.Listed ps) = AllByRecursion IsFormedPair ps
 
 abbrev pub IsFormedLink : LinkTree → Type 0
 IsFormedLink l = IsFormedGroup l.group × IsFormedPairs l.pairs
 
 abbrev pub IsFormedWorld : WorldTree → Type 0
-IsFormedWorld w = IsFormedName w.name × Each IsFormedAtom w.atoms
+IsFormedWorld w = IsFormedName w.name × AllByRecursion IsFormedAtom w.atoms
 
 abbrev pub IsFormedSees : SeesTree → Type 0
-IsFormedSees s = IsFormedGroup s.group × Each IsFormedAtom s.atoms
+IsFormedSees s = IsFormedGroup s.group × AllByRecursion IsFormedAtom s.atoms
 
 abbrev pub IsFormedInit : InitTree → Type 0
-IsFormedInit (Explicit worlds names links) = OneOrMore IsFormedWorld worlds × OneOrMore IsFormedName names × Each IsFormedLink links
+IsFormedInit (Explicit worlds names links) = OneOrMore IsFormedWorld worlds × OneOrMore IsFormedName names × AllByRecursion IsFormedLink links
 IsFormedInit (Lawful vary facts law sees f) =
-    Each IsFormedAtom vary × IfSome facts (Each IsFormedAtom) × IsFormedFormula law × Each IsFormedSees sees × IsFormedFormula f
+    AllByRecursion IsFormedAtom vary × IfSome facts (AllByRecursion IsFormedAtom) × IsFormedFormula law × AllByRecursion IsFormedSees sees × IsFormedFormula f
 
 -- ---- actions
 
@@ -142,19 +137,19 @@ abbrev pub IsFormedSet : SetTree → Type 0
 IsFormedSet s = IsFormedAtom s.atom × IsFormedFormula s.value
 
 abbrev pub IsFormedEvent : EventTree → Type 0
-IsFormedEvent e = IsFormedName e.name × IsFormedFormula e.pre × Each IsFormedSet e.sets
+IsFormedEvent e = IsFormedName e.name × IsFormedFormula e.pre × AllByRecursion IsFormedSet e.sets
 
 abbrev pub IsFormedBody : BodyTree → Type 0
 IsFormedBody (Announce what) = IsFormedFormula what
 IsFormedBody (Private what group) = IsFormedFormula what × IsFormedGroup group
 IsFormedBody (Sense what group) = IsFormedFormula what × IsFormedGroup group
-IsFormedBody (Assign guard sets) = IsFormedFormula guard × Each IsFormedSet sets
-IsFormedBody (Events events names links) = OneOrMore IsFormedEvent events × OneOrMore IsFormedName names × Each IsFormedLink links
+IsFormedBody (Assign guard sets) = IsFormedFormula guard × AllByRecursion IsFormedSet sets
+IsFormedBody (Events events names links) = OneOrMore IsFormedEvent events × OneOrMore IsFormedName names × AllByRecursion IsFormedLink links
 
 -- without parameters there is no `distinct`
 abbrev pub IsFormedSignature : List ParamTree → Bool → Type 0
 IsFormedSignature [] distinct = IsFalse distinct
-IsFormedSignature (p ∷ ps) distinct = IsFormedParam p × Each IsFormedParam ps
+IsFormedSignature (p ∷ ps) distinct = IsFormedParam p × AllByRecursion IsFormedParam ps
 
 abbrev pub IsFormedSchema : SchemaTree → Type 0
 IsFormedSchema s = IsFormedName s.name × IsFormedSignature s.params s.distinct × IsFormedBody s.body
@@ -163,12 +158,12 @@ IsFormedSchema s = IsFormedName s.name × IsFormedSignature s.params s.distinct 
 
 abbrev pub IsFormedTask : TaskTree → Type 0
 IsFormedTask t =
-    IsFormedName t.name × IfSome t.types (Each IsFormedType) × Each IsFormedObject t.objects × Each IsFormedFluent t.fluents × IsFormedInit t.init
-    × Each IsFormedSchema t.schemas × IsFormedFormula t.goal
+    IsFormedName t.name × IfSome t.types (AllByRecursion IsFormedType) × AllByRecursion IsFormedObject t.objects × AllByRecursion IsFormedFluent t.fluents × IsFormedInit t.init
+    × AllByRecursion IsFormedSchema t.schemas × IsFormedFormula t.goal
 
 abbrev pub IsFormedCall : CallTree → Type 0
-IsFormedCall c = IsFormedName c.name × Each IsFormedName c.args
+IsFormedCall c = IsFormedName c.name × AllByRecursion IsFormedName c.args
 
 -- a count has at most 9 digits
 abbrev pub IsFormedPlan : PlanTree → Type 0
-IsFormedPlan p = IsFormedName p.task × (p.count < 10 ^ 9) × Each IsFormedCall p.calls
+IsFormedPlan p = IsFormedName p.task × (p.count < 10 ^ 9) × AllByRecursion IsFormedCall p.calls

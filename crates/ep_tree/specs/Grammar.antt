@@ -1,5 +1,7 @@
 -- What it means that a tree reads a list of tokens, and where a list that no tree reads is refused.
-use Rattle.std.specs.Prelude.{◌≡◌, ℕ, ◌<◌, ◌≤◌, List, ◌++◌, length, take, Some}
+use Rattle.std.specs.Prelude.{◌≡◌, ℕ, ◌+◌, ◌<◌, ◌≤◌, List, ◌++◌, length, take, Some}
+use Rattle.ep_lex.specs.declared.limits.TheConstants.{MOST_TOKENS}
+use Rattle.ep_tree.specs.declared.limits.TheConstants.{MOST_NESTING}
 use Rattle.ep_tree.specs.declared.tree.TaskTree.{TaskTree}
 use Rattle.ep_tree.specs.declared.tree.FormulaTree.{FormulaTree}
 use Rattle.ep_tree.specs.declared.tree.PlanTree.{PlanTree}
@@ -27,18 +29,18 @@ plans = record { marks = spell.plan; IsFormed = IsFormedPlan; bare = bare_plan }
 abbrev pub spelling_of : {A : Type 0} → Grammar A → A → List (List ℕ)
 spelling_of g tree = texts (g.marks tree)
 
--- The tree is spelled by these tokens, holds their places, and has no nesting above 64.
+-- The tree is spelled by these tokens, holds their places, and no formula stands too deep.
 pub record Reads {A : Type 0} (g : Grammar A) (tokens : List (List ℕ)) (tree : A) : Type 0 where
   pub formed : g.IsFormed tree
   pub spelled : spelling_of g tree ≡ tokens
   pub placed : PlacedFrom 0 (g.marks tree)
   pub shallow : IsShallow (g.marks tree)
 
--- the task tree reads some list of at most 262,144 tokens, but for its token numbers
+-- the task tree reads some list of tokens within their limit, but for its token numbers
 pub record IsRead (t : TaskTree) : Type 0 where
   pub formed : IsFormedTask t
   pub shallow : IsShallow (tasks.marks t)
-  pub few : length (spelling_of tasks t) ≤ 262144
+  pub few : length (spelling_of tasks t) ≤ MOST_TOKENS
 
 -- no other tree is spelled so, but for token numbers
 abbrev pub IsOnly : {A : Type 0} → Grammar A → List (List ℕ) → A → Type 0
@@ -58,14 +60,14 @@ pub record IsViableCount {A : Type 0} (g : Grammar A) (tokens : List (List ℕ))
   pub greatest : (k : ℕ) → n < k → k ≤ length tokens → IsViable g (take k tokens) → ⊥
 
 -- Some viable front of the tokens, of `count` tokens, has token t, and in every text of the kind that begins with
--- this front token t begins a formula of nesting 65. So it does in those that begin with a longer one.
+-- this front token t begins a formula that stands too deep. So it does in those that begin with a longer one.
 pub record IsDeep {A : Type 0} (g : Grammar A) (tokens : List (List ℕ)) (t : ℕ) : Type 0 where
   pub count : ℕ
   pub within : count ≤ length tokens
   pub viable : IsViable g (take count tokens)
   pub below : t < count
   pub always : (tree : A) (more : List (List ℕ)) → g.IsFormed tree → spelling_of g tree ≡ take count tokens ++ more
-      → nesting_at (g.marks tree) t ≡ Some 65
+      → nesting_at (g.marks tree) t ≡ Some (MOST_NESTING + 1)
 
 -- No token is deep, no tree reads the tokens, and n is the viable count.
 pub record SyntaxAt {A : Type 0} (g : Grammar A) (tokens : List (List ℕ)) (n : ℕ) : Type 0 where

@@ -1,5 +1,6 @@
 pub mod Terminals
 pub mod Marks
+pub mod Nesting
 pub mod Spelling
 pub mod Formed
 pub mod Bare

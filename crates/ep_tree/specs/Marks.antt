@@ -1,11 +1,12 @@
 -- The tokens that a tree is spelled by, each with what the tree holds for it.
 use Rattle.std.specs.Prelude.{◌≡◌, ℕ, zero, suc, ◌+◌, ◌≤◌, List, [], ◌∷◌, map, Option, Some, None, IfSome}
+use Rattle.ep_tree.specs.declared.limits.TheConstants.{MOST_NESTING}
 use Rattle.ep_tree.specs.declared.terminal.Terminal.{Terminal}
 use Rattle.ep_tree.specs.declared.tree.Name.{Name}
 use Rattle.ep_tree.specs.Terminals.{text_of}
 
--- A token of a spelling: the number that the tree holds for it, if it holds one, its bytes, and the nesting of
--- the formula that it begins, if it begins one.
+-- A token of a spelling: the number that the tree holds for it, if it holds one, its bytes, and how deep
+-- the formula that it begins stands, if it begins one: at nesting 1 where it stands in no other.
 pub record Mark : Type 0 where
   pub number : Option ℕ
   pub text : List ℕ
@@ -33,10 +34,10 @@ abbrev pub PlacedFrom : ℕ → List Mark → Type 0
 PlacedFrom place [] = Unit {0}
 PlacedFrom place (m ∷ ms) = IfSome m.number (λ token. token ≡ place) × PlacedFrom (place + 1) ms
 
--- no formula has a nesting above 64
+-- no formula stands deeper than it may
 abbrev pub IsShallow : List Mark → Type 0
 IsShallow [] = Unit {0}
-IsShallow (m ∷ ms) = IfSome m.nesting (λ nesting. nesting ≤ 64) × IsShallow ms
+IsShallow (m ∷ ms) = IfSome m.nesting (λ nesting. nesting ≤ MOST_NESTING) × IsShallow ms
 
 -- the nesting of the formula that token i begins, if it begins one
 abbrev pub nesting_at : List Mark → ℕ → Option ℕ

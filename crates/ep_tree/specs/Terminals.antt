@@ -75,7 +75,7 @@ reserved =
 abbrev pub is_reserved : List ℕ → Bool
 is_reserved word = list_any (λ t. bytes_eq word (text_of t)) reserved
 
--- a word of at most 64 bytes that is not reserved
+-- a word that is not reserved
 abbrev pub is_name : List ℕ → Bool
 is_name text = is_piece (piece.Spelling kind.Word) text && not (is_reserved text)
 

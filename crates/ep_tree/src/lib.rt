@@ -1,9 +1,12 @@
 //! Trees of tasks, formulas and plan files, and the grammar that spells them.
 #![tactic(auto)]
 
+pub mod laws;
+pub mod limits;
 pub mod terminal;
 pub mod tree;
 
+pub use limits::MOST_NESTING;
 pub use terminal::{Terminal, is_reserved_word};
 pub use tree::{
     AtomTree, BodyTree, CallTree, EventTree, FluentTree, FormulaTree, GroupTree, InitTree,

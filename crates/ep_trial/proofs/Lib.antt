@@ -1,3 +1,2 @@
-pub mod AsciiLemmas
 pub mod ListLemmas
 pub mod TextLemmas

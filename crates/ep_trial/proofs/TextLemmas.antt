@@ -2,7 +2,8 @@
 use Rattle.std.proofs.Common.{◌≡◌, ℕ, List, [], ◌∷◌, ◌++◌, map, codes, append_assoc, ap, sym, ◌∙◌}
 use Rattle.std.proofs.lemmas.Grind.{flat_map-append}
 use Rattle.std.specs.List.{flat_map}
-use Rattle.ep_trial.specs.TrialText.{child, muddy, listed, line, sees_line, declaration_lines, initial_lines}
+use Rattle.ep_base.specs.Texts.{line}
+use Rattle.ep_trial.specs.TrialText.{child, muddy, listed, sees_line, declaration_lines, initial_lines}
 
 -- a list in the middle of a line
 within : (xs closing feed more : List ℕ) → ((xs ++ closing) ++ feed) ++ more ≡ xs ++ (closing ++ (feed ++ more))

@@ -1,8 +1,9 @@
 -- The text of the muddy children puzzle: its lines in order, each with a line feed. Children are counted from 1, numbers
 -- are in decimal, and one space stands between the tokens of a line.
 use Rattle.std.specs.Prelude.{ℕ, not, ◌==◌, List, [], ◌∷◌, ◌++◌, filter, map, codes}
-use Rattle.std.specs.List.{flat_map, join_by, range_with_len}
+use Rattle.std.specs.List.{join_by, range_with_len}
 use Rattle.std.specs.Fmt.{decimal}
+use Rattle.ep_base.specs.Texts.{lines}
 
 -- ---- the children
 
@@ -67,9 +68,6 @@ action_lines =
 abbrev pub trial_lines : List ℕ → List (List ℕ)
 trial_lines children = declaration_lines children ++ initial_lines children ++ action_lines
 
-abbrev pub line : List ℕ → List ℕ
-line text = text ++ codes "\n"
-
 -- the text for so many children
 abbrev pub trial_text : ℕ → List ℕ
-trial_text count = flat_map line (trial_lines (everyone count))
+trial_text count = lines (trial_lines (everyone count))

@@ -2,7 +2,6 @@
 #![tactic(auto)]
 
 mod children;
-mod text_builder;
 mod trial;
 
 pub use trial::trial_text;

@@ -1,13 +1,12 @@
 //! The text of the puzzle.
 
 ghost use Rattle.std.specs.Prelude.{◌≡◌, ◌++◌, IfOk, OnOk, map};
-ghost use Rattle.std.specs.List.{flat_map};
+ghost use Rattle.ep_base.specs.Texts.{line, lines};
 ghost use Rattle.ep_trial.specs.TrialText as spec;
-ghost use Rattle.ep_trial.specs.TrialText.{line, listed};
+ghost use Rattle.ep_trial.specs.TrialText.{listed};
 
 use crate::children::{everyone, others};
-use crate::text_builder::TextBuilder;
-use ep_base::{OutOfMemory, Text};
+use ep_base::{OutOfMemory, Text, TextBuilder};
 use std::alloc::Global;
 
 fn push_child(text: &mut TextBuilder, child: u32) -> Result<(), OutOfMemory>
@@ -59,7 +58,7 @@ fn push_atoms(text: &mut TextBuilder, children: &[u32]) -> Result<(), OutOfMemor
 }
 
 fn push_declarations(text: &mut TextBuilder, children: &[u32]) -> Result<(), OutOfMemory>
-    ensures { OnOk result (text.new ≡ text.old ++ flat_map line (spec.declaration_lines children.now)) }
+    ensures { OnOk result (text.new ≡ text.old ++ lines (spec.declaration_lines children.now)) }
 {
     text.push("task muddy ;\ntypes { child < agent ;\n}\nobjects {")?;
     push_children(text, children)?;
@@ -89,7 +88,7 @@ fn push_sees_lines(
     text: &mut TextBuilder,
     children: &[u32],
 ) -> Result<(), OutOfMemory>
-    ensures { OnOk result (text.new ≡ text.old ++ flat_map line (map (spec.sees_line children.now) children.now)) }
+    ensures { OnOk result (text.new ≡ text.old ++ lines (map (spec.sees_line children.now) children.now)) }
 {
     for child in children {
         push_sees_line(alloc, text, children, *child)?;
@@ -98,7 +97,7 @@ fn push_sees_lines(
 }
 
 fn push_initial(alloc: Global, text: &mut TextBuilder, children: &[u32]) -> Result<(), OutOfMemory>
-    ensures { OnOk result (text.new ≡ text.old ++ flat_map line (spec.initial_lines children.now)) }
+    ensures { OnOk result (text.new ≡ text.old ++ lines (spec.initial_lines children.now)) }
 {
     text.push("init {\nvary {")?;
     push_atoms(text, children)?;
@@ -110,7 +109,7 @@ fn push_initial(alloc: Global, text: &mut TextBuilder, children: &[u32]) -> Resu
 
 #[tactic(auto, unfolding(crate::specs::TrialText::action_lines))]
 fn push_actions(text: &mut TextBuilder) -> Result<(), OutOfMemory>
-    ensures { OnOk result (text.new ≡ text.old ++ flat_map line spec.action_lines) }
+    ensures { OnOk result (text.new ≡ text.old ++ lines spec.action_lines) }
 {
     text.push(
         "action father { announce exists ( c : child ) muddy ( c ) ;\n}\n\

@@ -8,19 +8,15 @@ use Rattle.ep_logic.specs.AgentSets.{Has, is_nobody}
 use Rattle.ep_theory.specs.Rising.{IsIn}
 use Rattle.ep_theory.specs.Kripke.{Kripke, IsState, links_of, successors}
 use Rattle.ep_theory.specs.Walks.{IsStep, IsWalk, last_of}
-use Rattle.ep_theory.specs.Numbers.{numbers_where}
+use Rattle.ep_logic.specs.Numbers.{numbers_where}
 use Rattle.ep_theory.specs.Fits.{link_count}
-use Rattle.ep_theory.proofs.Bools.{decided, in_left, in_right, in_parts}
-use Rattle.ep_theory.proofs.Counting.{last_or_before}
-use Rattle.ep_theory.proofs.Lists.{from_successors, IsIn-successors}
-use Rattle.ep_theory.proofs.NumbersLemmas.{in_numbers, from_numbers}
-use Rattle.ep_theory.proofs.Unique.{links_within}
-use Rattle.ep_truth.specs.Labels.{value_at}
-use Rattle.ep_truth.specs.Sources.{row_at, with_source, with_sources}
-use Rattle.ep_truth.specs.Taking.{without, taken}
+use Rattle.ep_theory.proofs.CallerLemmas.{decided, in_left, in_right, in_parts, last_or_before, from_successors, IsIn-successors, in_numbers, from_numbers, links_within}
+use Rattle.ep_logic.specs.Rows.{value_at}
+use Rattle.ep_kripke.specs.Sources.{row_at, with_source, with_sources}
+use Rattle.ep_kripke.specs.Taking.{without, taken}
 use Rattle.ep_truth.specs.Common.{AllWalks, GainsLinks, LeadBack, is_out}
-use Rattle.ep_truth.proofs.SourceLemmas.{sum-with_source}
-use Rattle.ep_truth.proofs.TakingLemmas.{trues, length-without, without_other, without_false, without_here, from_taken, in_taken, trues-without}
+use Rattle.ep_kripke.proofs.CallerLemmas.{sum-with_source}
+use Rattle.ep_kripke.proofs.CallerLemmas.{trues, length-without, without_other, without_false, without_here, from_taken, in_taken, trues-without}
 
 -- who is among the sources
 from_with_source : (rows : List (List ℕ)) (from to w v : ℕ) → to < length rows → IsIn w (row_at (with_source rows from to) v) → IsIn w (row_at rows v) ⊎ ((w ≡ from) × (v ≡ to))

@@ -1,34 +1,38 @@
 -- Rows that are the label of a formula, variant by variant.
-use Rattle.std.proofs.Common.{◌≡◌, ℕ, zero, suc, ◌+◌, ◌<◌, Bool, true, false, not, ◌&&◌, ◌||◌, ◌↔◌, List, [], ◌∷◌, length, get_or, take, replicate, refl, ap, ap₂, ◌∙◌, sym, subst, IsTrue, All, IfOk, Result, Ok, Err, arith, inl, inr}
+use Rattle.std.proofs.Common.{◌≡◌, ℕ, zero, suc, ◌+◌, ◌<◌, Bool, true, false, not, ◌&&◌, ◌||◌, ◌↔◌, List, [], ◌∷◌, map, length, get_or, take, replicate, refl, ap, ap₂, ◌∙◌, sym, subst, IsTrue, All, IfOk, Result, Ok, Err, arith, inl, inr}
 use Rattle.std.specs.List.{list_all, list_any}
 use Rattle.std.specs.Cmp.{both_ways}
-use Rattle.std.proofs.lemmas.List.{take_more, length-replicate, same_lists, get_or_default}
+use Rattle.std.proofs.lemmas.List.{take_more, length-replicate, get_or-replicate, length-map, get_or-map, same_lists, get_or_default}
 use Rattle.std.proofs.lemmas.List.Folds.{list_all-append, list_any-append}
-use Rattle.ep_logic.specs.Rows.{both}
-use Rattle.ep_logic.proofs.PackedLemmas.{both_at, both_long}
+use Rattle.ep_logic.specs.Rows.{both, either, value_at}
+use Rattle.ep_logic.proofs.CallerLemmas.{both_at, both_long, either_at, either_long, length-table, get_or-table}
 use Rattle.ep_logic.specs.declared.ids.AgentId.{AgentId}
 use Rattle.ep_logic.specs.declared.ids.AtomId.{AtomId}
 use Rattle.ep_logic.specs.declared.formula.Node.{Node}
 use Rattle.ep_logic.specs.declared.formula.Node.TheVariants.{True, False, Atom, Not, And, Or, Knows, Common}
 use Rattle.ep_theory.specs.Rising.{IsIn}
-use Rattle.ep_theory.specs.Numbers.{table}
+use Rattle.ep_logic.specs.Numbers.{table}
 use Rattle.ep_theory.specs.Kripke.{Kripke, IsState, links_of, successors}
 use Rattle.ep_theory.specs.Walks.{IsWalk, last_of}
 use Rattle.ep_theory.specs.Truth.{Truth}
 use Rattle.ep_theory.specs.Tested.{is_true}
-use Rattle.ep_theory.proofs.Lists.{from_successors, at_All}
-use Rattle.ep_theory.proofs.Filters.{IsIn-at}
-use Rattle.ep_theory.proofs.Unique.{links_within}
-use Rattle.ep_theory.proofs.NumbersLemmas.{length-table, get_or-table}
-use Rattle.ep_theory.proofs.TestedLemmas.{is_true-True, is_true-False, is_true-Atom, is_true-Not, is_true-And, is_true-Or, is_true-Knows, is_true-Common}
-use Rattle.ep_theory.proofs.WithinSteps.{within_from_walks, walks_from_within}
-use Rattle.ep_theory.proofs.Decided.{is_true_decides}
+use Rattle.ep_theory.proofs.CallerLemmas.{from_successors, at_All, IsIn-at, links_within, is_true-True, is_true-False, is_true-Atom, is_true-Not, is_true-And, is_true-Or, is_true-Knows, is_true-Common, within_from_walks, walks_from_within, is_true_decides}
 use Rattle.ep_truth.specs.Common.{AllWalks}
-use Rattle.ep_truth.specs.Labels.{value_at, Tells, IsLabel, formula_test, all_test, any_test, atom_test, knows_test}
+use Rattle.ep_truth.specs.Labels.{IsLabel, formula_test, all_test, any_test, atom_test, knows_test, HasValues}
 
 -- a row that tells one test tells an equal one
-Tells-along : (n : ℕ) (p q : ℕ → Bool) (row : List Bool) → ((w : ℕ) → w < n → p w ≡ q w) → Tells n p row → Tells n q row
-Tells-along n p q row h t = record { long = t.long; each = λ w l. t.each w l ∙ h w l }
+HasValues-along : (n : ℕ) (p q : ℕ → Bool) (row : List Bool) → ((w : ℕ) → w < n → p w ≡ q w) → HasValues n p row → HasValues n q row
+HasValues-along n p q row h t = record { long = t.long; each = λ w l. t.each w l ∙ h w l }
+
+-- a row of a relation's rows tells what an agent knows
+pub knows_row : (S : Kripke) (a : ℕ) (inner row : List Bool) (rows : List (List ℕ)) → length rows ≡ S.worlds → ((w : ℕ) → w < S.worlds → get_or rows w [] ≡ successors (links_of S a) w) →
+    row ≡ table (λ w. list_all (value_at inner) (get_or rows w [])) (length rows) → HasValues S.worlds (knows_test S a inner) row
+knows_row S a inner row rows long each e = record {
+  long = ap length e ∙ length-table (λ w. list_all (value_at inner) (get_or rows w [])) (length rows) ∙ long;
+  each = λ w l.
+      ap (λ r. get_or r w false) e ∙ get_or-table (λ w. list_all (value_at inner) (get_or rows w [])) (length rows) w false (omega (arith, l, long))
+      ∙ ap (list_all (value_at inner)) (each w l);
+}
 
 pub replicate_false : (n k : ℕ) → value_at (replicate n false) k ≡ false
 replicate_false zero k = refl
@@ -40,13 +44,15 @@ all_alike p q [] h = refl
 all_alike p q (x ∷ xs) h = ap₂ ◌&&◌ (h x (inl refl)) (all_alike p q xs (λ y i. h y (inr i)))
 
 module _ (S : Kripke) where
-  label-True : (row : List Bool) → length row ≡ S.worlds → ((k : ℕ) → k < S.worlds → value_at row k ≡ true) → IsLabel S True row
-  label-True row e h = record { long = e; each = λ w l. h w l ∙ sym (is_true-True S w) }
+  -- a row that is true everywhere
+  all_true : (row : List Bool) → row ≡ replicate S.worlds true → (length row ≡ S.worlds) × ((w : ℕ) → w < S.worlds → value_at row w ≡ true)
+  all_true row e = (ap length e ∙ length-replicate S.worlds true, λ w l. ap (λ r. value_at r w) e ∙ get_or-replicate S.worlds w true false l)
 
-  -- a new row that is true everywhere
-  pub ones_label : {E : Type 0} (n : ℕ) → n ≡ S.worlds → (r : Result (List Bool) E) → IfOk r (λ row. length row ≡ n) → IfOk r (λ row. (k : ℕ) → k < n → value_at row k ≡ true) → IfOk r (IsLabel S True)
-  ones_label n e (Ok row) l h = label-True row (l ∙ e) (λ k b. h k (omega (arith, e, b)))
-  ones_label n e (Err x) l h = tt
+  pub label-True : (row : List Bool) → row ≡ replicate S.worlds true → IsLabel S True row
+  label-True row e = record { long = (all_true row e).0; each = λ w l. (all_true row e).1 w l ∙ sym (is_true-True S w) }
+
+  pub tells_nothing : (row : List Bool) → row ≡ replicate S.worlds true → HasValues S.worlds (all_test S []) row
+  tells_nothing row e = record { long = (all_true row e).0; each = (all_true row e).1 }
 
   pub label-False : (row : List Bool) → row ≡ replicate S.worlds false → IsLabel S False row
   label-False row e = record {
@@ -54,26 +60,25 @@ module _ (S : Kripke) where
     each = λ w l. ap (λ r. value_at r w) e ∙ replicate_false S.worlds w ∙ sym (is_true-False S w);
   }
 
-  pub label-Atom : (p : AtomId) (row : List Bool) → Tells S.worlds (atom_test S p.n) row → IsLabel S (Atom p) row
-  label-Atom p row = Tells-along S.worlds (atom_test S p.n) (formula_test S (Atom p)) row (λ w l. sym (is_true-Atom S w p))
+  pub label-Atom : (p : AtomId) (row : List Bool) → HasValues S.worlds (atom_test S p.n) row → IsLabel S (Atom p) row
+  label-Atom p row = HasValues-along S.worlds (atom_test S p.n) (formula_test S (Atom p)) row (λ w l. sym (is_true-Atom S w p))
 
-  pub label-Not : (f : Node) (row new : List Bool) → IsLabel S f row → length new ≡ length row →
-      ((k : ℕ) → k < length row → value_at new k ≡ not (value_at row k)) → IsLabel S (Not f) new
-  label-Not f row new t e turned = record {
-    long = e ∙ t.long;
-    each = λ w l. turned w (omega (arith, t.long)) ∙ ap not (t.each w l) ∙ sym (is_true-Not S w f);
+  pub label-Not : (f : Node) (row new : List Bool) → IsLabel S f row → new ≡ map not row → IsLabel S (Not f) new
+  label-Not f row new t e = record {
+    long = ap length e ∙ length-map row not ∙ t.long;
+    each = λ w l. ap (λ r. value_at r w) e ∙ get_or-map not row w false false (omega (arith, l, t.long)) ∙ ap not (t.each w l) ∙ sym (is_true-Not S w f);
   }
 
-  pub label-And : (fs : List Node) (row : List Bool) → Tells S.worlds (all_test S fs) row → IsLabel S (And fs) row
-  label-And fs row = Tells-along S.worlds (all_test S fs) (formula_test S (And fs)) row (λ w l. sym (is_true-And S w fs))
+  pub label-And : (fs : List Node) (row : List Bool) → HasValues S.worlds (all_test S fs) row → IsLabel S (And fs) row
+  label-And fs row = HasValues-along S.worlds (all_test S fs) (formula_test S (And fs)) row (λ w l. sym (is_true-And S w fs))
 
-  pub label-Or : (fs : List Node) (row : List Bool) → Tells S.worlds (any_test S fs) row → IsLabel S (Or fs) row
-  label-Or fs row = Tells-along S.worlds (any_test S fs) (formula_test S (Or fs)) row (λ w l. sym (is_true-Or S w fs))
+  pub label-Or : (fs : List Node) (row : List Bool) → HasValues S.worlds (any_test S fs) row → IsLabel S (Or fs) row
+  label-Or fs row = HasValues-along S.worlds (any_test S fs) (formula_test S (Or fs)) row (λ w l. sym (is_true-Or S w fs))
 
   -- one part more
   pub tells_and : (fs : List Node) (i : ℕ) (d : Node) (row next new : List Bool) → i < length fs →
-      Tells S.worlds (all_test S (take i fs)) row → IsLabel S (get_or fs i d) next → new ≡ both row next →
-      Tells S.worlds (all_test S (take (i + 1) fs)) new
+      HasValues S.worlds (all_test S (take i fs)) row → IsLabel S (get_or fs i d) next → new ≡ both row next →
+      HasValues S.worlds (all_test S (take (i + 1) fs)) new
   tells_and fs i d row next new h t u e = record {
     long = ap length e ∙ both_long row next (t.long ∙ sym u.long) ∙ t.long;
     each = λ w l. ap (λ r. value_at r w) e ∙ both_at row next w ∙ ap₂ ◌&&◌ (t.each w l) (u.each w l) ∙ sym (more w);
@@ -88,12 +93,11 @@ module _ (S : Kripke) where
           ∙ ap (λ b. list_all (is_true S w) (take i fs) && b) (and-true (is_true S w (get_or fs i d)))
 
   pub tells_or : (fs : List Node) (i : ℕ) (d : Node) (row next new : List Bool) → i < length fs →
-      Tells S.worlds (any_test S (take i fs)) row → IsLabel S (get_or fs i d) next → length new ≡ length row →
-      ((k : ℕ) → k < length row → value_at new k ≡ (value_at row k || value_at next k)) →
-      Tells S.worlds (any_test S (take (i + 1) fs)) new
-  tells_or fs i d row next new h t u e joined = record {
-    long = e ∙ t.long;
-    each = λ w l. joined w (omega (arith, t.long)) ∙ ap₂ ◌||◌ (t.each w l) (u.each w l) ∙ sym (more w);
+      HasValues S.worlds (any_test S (take i fs)) row → IsLabel S (get_or fs i d) next → new ≡ either row next →
+      HasValues S.worlds (any_test S (take (i + 1) fs)) new
+  tells_or fs i d row next new h t u e = record {
+    long = ap length e ∙ either_long row next (t.long ∙ sym u.long) ∙ t.long;
+    each = λ w l. ap (λ r. value_at r w) e ∙ either_at row next w ∙ ap₂ ◌||◌ (t.each w l) (u.each w l) ∙ sym (more w);
   }
     where
       or-false : (b : Bool) → (b || false) ≡ b
@@ -117,8 +121,8 @@ module _ (S : Kripke) where
     pub designated_within : All (λ w. w < S.worlds) S.designated
     designated_within k d l = designated_at (get_or S.designated k d) (IsIn-at S.designated k d l)
 
-    pub label-Knows : (a : AgentId) (f : Node) (inner row : List Bool) → IsLabel S f inner → Tells S.worlds (knows_test S a.n inner) row → IsLabel S (Knows a f) row
-    label-Knows a f inner row t = Tells-along S.worlds (knows_test S a.n inner) (formula_test S (Knows a f)) row
+    pub label-Knows : (a : AgentId) (f : Node) (inner row : List Bool) → IsLabel S f inner → HasValues S.worlds (knows_test S a.n inner) row → IsLabel S (Knows a f) row
+    label-Knows a f inner row t = HasValues-along S.worlds (knows_test S a.n inner) (formula_test S (Knows a f)) row
         (λ w l. all_alike (value_at inner) (λ v. is_true S v f) (successors (links_of S a.n) w)
         (λ v i. t.each v (links_within S s a.n w v (from_successors w v (links_of S a.n) i)).1)
         ∙ sym (is_true-Knows S w a f))

@@ -1,5 +1,4 @@
 pub mod FitLemmas
 pub mod LabelLemmas
-pub mod SourceLemmas
-pub mod TakingLemmas
 pub mod CommonLemmas
+pub mod CallerLemmas

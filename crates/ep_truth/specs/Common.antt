@@ -3,8 +3,8 @@ use Rattle.std.specs.Prelude.{ℕ, ◌<◌, ◌↔◌, ◌⊎◌, Bool, not, Lis
 use Rattle.ep_theory.specs.Rising.{IsIn}
 use Rattle.ep_theory.specs.Kripke.{Kripke, links_of}
 use Rattle.ep_theory.specs.Walks.{IsStep, IsWalk, last_of}
-use Rattle.ep_truth.specs.Labels.{value_at}
-use Rattle.ep_truth.specs.Sources.{row_at}
+use Rattle.ep_logic.specs.Rows.{value_at}
+use Rattle.ep_kripke.specs.Sources.{row_at}
 
 -- every walk of the group from the world ends where the row is true
 abbrev pub AllWalks : Kripke → List Bool → List Bool → ℕ → Type 0

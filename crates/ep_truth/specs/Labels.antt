@@ -1,16 +1,13 @@
 -- Rows of truth values over the worlds of a state.
-use Rattle.std.specs.Prelude.{◌≡◌, ℕ, ◌<◌, Bool, false, List, length, slice_index_or}
+use Rattle.std.specs.Prelude.{◌≡◌, ℕ, ◌<◌, Bool, List, length}
 use Rattle.std.specs.List.{list_all, list_any}
+use Rattle.ep_logic.specs.Rows.{value_at}
 use Rattle.ep_logic.specs.declared.formula.Node.{Node}
 use Rattle.ep_theory.specs.Kripke.{Kripke, atom_at, links_of, successors}
 use Rattle.ep_theory.specs.Tested.{is_true}
 
--- the value of a row at a place, false past its end
-abbrev pub value_at : List Bool → ℕ → Bool
-value_at row w = slice_index_or row w false
-
 -- the row has a place for each number below n, and there the value of the test
-pub record Tells (n : ℕ) (p : ℕ → Bool) (row : List Bool) : Type 0 where
+pub record HasValues (n : ℕ) (p : ℕ → Bool) (row : List Bool) : Type 0 where
   pub long : length row ≡ n
   pub each : (w : ℕ) → w < n → value_at row w ≡ p w
 
@@ -36,4 +33,4 @@ knows_test S a row w = list_all (value_at row) (successors (links_of S a) w)
 
 -- the truth of the formula at each world
 abbrev pub IsLabel : Kripke → Node → List Bool → Type 0
-IsLabel S f row = Tells S.worlds (formula_test S f) row
+IsLabel S f row = HasValues S.worlds (formula_test S f) row

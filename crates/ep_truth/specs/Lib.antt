@@ -1,4 +1,2 @@
 pub mod Labels
-pub mod Sources
-pub mod Taking
 pub mod Common

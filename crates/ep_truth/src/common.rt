@@ -1,12 +1,11 @@
 ghost use Rattle.std.specs.Prelude.{◌≡◌, ℕ, ◌+◌, ◌<◌, ◌≤◌, ◌^◌, ◌↔◌, IfOk, OnOk, IsTrue, length, drop, sum_by};
 ghost use Rattle.ep_logic.specs.AgentSets.{is_nobody};
 ghost use Rattle.ep_theory.specs.Kripke.{IsState, links_of};
-ghost use Rattle.ep_theory.specs.Numbers.{numbers_where};
-ghost use Rattle.ep_truth.specs.Labels.{value_at};
+ghost use Rattle.ep_logic.specs.Numbers.{numbers_where};
+ghost use Rattle.ep_logic.specs.Rows.{value_at};
 ghost use Rattle.ep_truth.specs.Common.{AllWalks, GainsLinks, LeadBack, is_out};
 
-use crate::sources::Sources;
-use ep_kripke::State;
+use ep_kripke::{Sources, State};
 use ep_logic::{AgentId, Agents, Bits, OutOfMemory, WorldId};
 use std::alloc::{AllocError, Global};
 
@@ -44,13 +43,13 @@ fn sources_of(alloc: Global, s: &State, group: &Agents) -> Result<Sources, OutOf
     for a in 0..s.agents() {
         let agent = AgentId { n: a };
         if group.has(agent) {
-            add_links(s, agent, &mut sources)?;
+            add_links(alloc, s, agent, &mut sources)?;
         }
     }
     Ok(sources)
 }
 
-fn add_links(s: &State, a: AgentId, sources: &mut Sources) -> Result<(), OutOfMemory>
+fn add_links(alloc: Global, s: &State, a: AgentId, sources: &mut Sources) -> Result<(), OutOfMemory>
     requires agent { a.n < s.now.agents }
     requires long { length sources.old ≡ s.now.worlds }
     requires room { sum_by length sources.old + length (links_of s.now a.n) < 2 ^ 32 }
@@ -59,8 +58,10 @@ fn add_links(s: &State, a: AgentId, sources: &mut Sources) -> Result<(), OutOfMe
         ≤ sum_by length sources.old + length (links_of s.now a.n)) }
     ensures gains { OnOk result (GainsLinks s.now a.n sources.old sources.new) }
 {
+    let mut targets = Vec::new(alloc);
     for w in 0..s.worlds() {
-        sources.add_all(w, s.targets(a, WorldId { n: w }))?;
+        s.read_targets(a, WorldId { n: w }, &mut targets)?;
+        sources.add_all(w, &targets)?;
     }
     Ok(())
 }

@@ -1,5 +1,6 @@
 ghost use Rattle.std.specs.Prelude.{◌≡◌, ◌≤◌, ◌↔◌, IsTrue};
 ghost use Rattle.std.specs.List.{list_all};
+ghost use Rattle.ep_logic.specs.declared.limits.TheConstants.{MOST_AGENTS};
 ghost use Rattle.ep_theory.specs.Fits.{Fits, fits_in};
 
 use ep_kripke::State;
@@ -15,7 +16,7 @@ pub fn fits(s: &State, f: &Formula) -> bool
 #[cycle(fit)]
 #[tactic(auto, using(crate::proofs::FitLemmas::fit_laws))]
 fn fits_node(agents: u32, atoms: u32, node: &Node) -> bool
-    requires { agents ≤ 8 }
+    requires { agents ≤ MOST_AGENTS }
     ensures { result ≡ fits_in agents atoms node.now }
 {
     match node {
@@ -33,7 +34,7 @@ fn fits_node(agents: u32, atoms: u32, node: &Node) -> bool
 
 #[cycle(fit)]
 fn fit_nodes(agents: u32, atoms: u32, parts: &List<Node>) -> bool
-    requires { agents ≤ 8 }
+    requires { agents ≤ MOST_AGENTS }
     ensures { result ≡ list_all (fits_in agents atoms) parts.now }
 {
     for part in parts.as_slice() {

@@ -2,14 +2,13 @@ ghost use Rattle.std.specs.Prelude.{◌≡◌, ℕ, ◌<◌, true, false, IfOk, 
 ghost use Rattle.std.specs.List.{list_all};
 ghost use Rattle.ep_logic.specs.AgentSets.{is_nobody};
 ghost use Rattle.ep_theory.specs.Rising.{IsIn};
-ghost use Rattle.ep_theory.specs.Numbers.{table};
+ghost use Rattle.ep_logic.specs.Numbers.{table};
 ghost use Rattle.ep_theory.specs.Truth.{Truth};
 ghost use Rattle.ep_theory.specs.Tested.{is_true};
 ghost use Rattle.ep_theory.specs.Fits.{Fits, fits_in};
-ghost use Rattle.ep_truth.specs.Labels.{IsLabel, Tells, all_test, any_test, atom_test, knows_test};
+ghost use Rattle.ep_truth.specs.Labels.{IsLabel, all_test, any_test, atom_test, knows_test, HasValues};
 
 use crate::common::label_common;
-use crate::rows::{flip, is_true_at_all, ones, or_with};
 use ep_kripke::State;
 use ep_logic::{AgentId, AtomId, Bits, Formula, List, Node, OutOfMemory, WorldId};
 use std::alloc::Global;
@@ -37,12 +36,12 @@ fn label_node(alloc: Global, s: &State, node: &Node) -> Result<Bits, OutOfMemory
 {
     let worlds = s.worlds();
     match node {
-        Node::True => ones(alloc, worlds),
+        Node::True => Bits::ones(alloc, worlds),
         Node::False => Bits::zeros(alloc, worlds),
         Node::Atom(p) => label_atom(alloc, s, *p),
         Node::Not(inner) => {
             let mut row = label_node(alloc, s, inner.get())?;
-            flip(&mut row);
+            row.flip();
             Ok(row)
         }
         Node::And(parts) => label_and(alloc, s, parts),
@@ -61,9 +60,9 @@ fn label_node(alloc: Global, s: &State, node: &Node) -> Result<Bits, OutOfMemory
 #[cycle(label)]
 fn label_and(alloc: Global, s: &State, parts: &List<Node>) -> Result<Bits, OutOfMemory>
     requires { list_all (fits_in s.now.agents s.now.atoms) parts.now ≡ true }
-    ensures { IfOk result (Tells s.now.worlds (all_test s.now parts.now)) }
+    ensures { IfOk result (HasValues s.now.worlds (all_test s.now parts.now)) }
 {
-    let mut row = ones(alloc, s.worlds())?;
+    let mut row = Bits::ones(alloc, s.worlds())?;
     for part in parts.as_slice() {
         let next = label_node(alloc, s, part)?;
         row.and_with(&next);
@@ -74,19 +73,19 @@ fn label_and(alloc: Global, s: &State, parts: &List<Node>) -> Result<Bits, OutOf
 #[cycle(label)]
 fn label_or(alloc: Global, s: &State, parts: &List<Node>) -> Result<Bits, OutOfMemory>
     requires { list_all (fits_in s.now.agents s.now.atoms) parts.now ≡ true }
-    ensures { IfOk result (Tells s.now.worlds (any_test s.now parts.now)) }
+    ensures { IfOk result (HasValues s.now.worlds (any_test s.now parts.now)) }
 {
     let mut row = Bits::zeros(alloc, s.worlds())?;
     for part in parts.as_slice() {
         let next = label_node(alloc, s, part)?;
-        or_with(&mut row, &next);
+        row.or_with(&next);
     }
     Ok(row)
 }
 
 fn label_atom(alloc: Global, s: &State, p: AtomId) -> Result<Bits, OutOfMemory>
     requires { p.n < s.now.atoms }
-    ensures { IfOk result (Tells s.now.worlds (atom_test s.now p.n)) }
+    ensures { IfOk result (HasValues s.now.worlds (atom_test s.now p.n)) }
 {
     let mut row = Bits::zeros(alloc, s.worlds())?;
     for w in 0..s.worlds() {
@@ -98,20 +97,7 @@ fn label_atom(alloc: Global, s: &State, p: AtomId) -> Result<Bits, OutOfMemory>
 fn label_knows(alloc: Global, s: &State, a: AgentId, inner: &Bits) -> Result<Bits, OutOfMemory>
     requires agent { a.n < s.now.agents }
     requires long { length inner.now ≡ s.now.worlds }
-    ensures { IfOk result (Tells s.now.worlds (knows_test s.now a.n inner.now)) }
+    ensures { IfOk result (HasValues s.now.worlds (knows_test s.now a.n inner.now)) }
 {
-    let mut row = Bits::zeros(alloc, s.worlds())?;
-    for w in 0..s.worlds() {
-        row.set(w, knows_at(s, a, WorldId { n: w }, inner));
-    }
-    Ok(row)
-}
-
-fn knows_at(s: &State, a: AgentId, w: WorldId, row: &Bits) -> bool
-    requires agent { a.n < s.now.agents }
-    requires world { w.n < s.now.worlds }
-    requires long { length row.now ≡ s.now.worlds }
-    ensures { result ≡ knows_test s.now a.n row.now w.n }
-{
-    is_true_at_all(s.targets(a, w), row)
+    s.relation(a).all_within(alloc, inner)
 }

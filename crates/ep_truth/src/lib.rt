@@ -5,7 +5,6 @@ mod common;
 mod fit;
 mod labels;
 mod rows;
-mod sources;
 mod truths;
 
 pub use fit::fits;

@@ -1,6 +1,5 @@
-ghost use Rattle.std.specs.Prelude.{◌≡◌, ℕ, ◌<◌, IfOk, IsTrue, ◌↔◌};
-ghost use Rattle.ep_theory.specs.Rising.{IsIn};
-ghost use Rattle.ep_theory.specs.Truth.{Truth};
+ghost use Rattle.std.specs.Prelude.{◌<◌, IfOk, IsTrue, ◌↔◌};
+ghost use Rattle.ep_theory.specs.Truth.{Truth, Satisfies};
 ghost use Rattle.ep_theory.specs.Fits.{Fits};
 
 use crate::labels::label;
@@ -22,8 +21,7 @@ pub fn holds(alloc: Global, s: &State, w: WorldId, f: &Formula) -> Result<bool, 
 /// Truth at every designated world, by the label of the formula.
 pub fn holds_all(alloc: Global, s: &State, f: &Formula) -> Result<bool, OutOfMemory>
     requires { Fits s.now f.now }
-    ensures { IfOk result (λ b. IsTrue b
-        ↔ ((w : ℕ) → IsIn w s.now.designated → Truth s.now w f.now)) }
+    ensures { IfOk result (λ b. IsTrue b ↔ Satisfies s.now f.now) }
 {
     let row = label(alloc, s, f)?;
     Ok(is_true_at_all(s.designated(), &row))

@@ -1,5 +1,5 @@
 -- Keys of atoms, and what is in a set of atoms.
-use Rattle.std.proofs.Common.{◌≡◌, ℕ, ◌+◌, ◌<◌, length, get_or, take, Bool, true, false, ◌||◌, List, [], ◌∷◌, ◌++◌, map, Result, Ok, Err, nat_eq, if◌then◌else◌, refl, ap, sym, ◌∙◌}
+use Rattle.std.proofs.Common.{◌≡◌, ℕ, ◌+◌, ◌<◌, length, get_or, take, Bool, true, false, ◌||◌, List, [], ◌∷◌, ◌++◌, map, option_map, Result, Ok, Err, nat_eq, if◌then◌else◌, refl, ap, sym, subst, ◌∙◌}
 use Rattle.std.proofs.lemmas.Cmp.{nat_list_eq_equiv, lists_equiv}
 use Rattle.std.proofs.lemmas.List.{map-append, take_more}
 use Rattle.std.specs.Cmp.{IsEquivalence}
@@ -8,15 +8,17 @@ use Rattle.std.specs.Cmp.Lexicographic.{pointwise}
 use Rattle.std.specs.Global.{Vec}
 use Rattle.std.specs.List.{list_any}
 use Rattle.indexmap.specs.IndexSet.{insert_key}
+use Rattle.std.specs.Option.{option_or}
 use Rattle.ep_types.specs.Names.{Text, is_text}
 use Rattle.ep_types.specs.Places.{Scope, each}
-use Rattle.ep_types.specs.Faults.{first_fault, or_else, IsJudged}
 use Rattle.ep_types.specs.declared.fault.TypeError.{TypeError}
-use Rattle.ep_types.specs.declared.fault.TypeError.TheVariants.{At, OutOfMemory}
+use Rattle.ep_types.specs.declared.fault.TypeError.TheVariants.{OutOfMemory}
 use Rattle.ep_types.specs.Uses.{fact_uses}
 use Rattle.ep_types.specs.Tasks.{facts_uses}
 use Rattle.ep_types.specs.Atoms.{atom_texts, is_atom, has_atom, with_atom, key_texts, IsSetOf}
 use Rattle.ep_tree.specs.declared.tree.AtomTree.{AtomTree}
+use Rattle.ep_base.specs.Refusals.{Reports}
+use Rattle.ep_types.specs.Faults.{error_at, first_fault, IsJudged}
 
 -- whether two keys are one
 abbrev pub is_key : Vec (Vec ℕ) → Vec (Vec ℕ) → Bool
@@ -80,9 +82,8 @@ fact_alike vary set x s is = rw (is (atom_texts x)) refl
 
 pub facts_alike : (vary : List AtomTree) (set : List (List Text)) (xs : List AtomTree) (s : Scope) → IsSetOf vary set → first_fault (each (λ a. fact_uses set a s) xs) ≡ first_fault (facts_uses vary xs s)
 facts_alike vary set [] s is = refl
-facts_alike vary set (x ∷ xs) s is = λ i. or_else (fact_alike vary set x s is i) (facts_alike vary set xs s is i)
+facts_alike vary set (x ∷ xs) s is = λ i. option_or (fact_alike vary set x s is i) (facts_alike vary set xs s is i)
 
 pub facts_judged : (vary : List AtomTree) (set : List (List Text)) (xs : List AtomTree) (s : Scope) (r : Result (Unit {0}) TypeError) → IsSetOf vary set → IsJudged (each (λ a. fact_uses set a s) xs) r → IsJudged (facts_uses vary xs s) r
 facts_judged vary set xs s (Ok u) is h = sym (facts_alike vary set xs s is) ∙ h
-facts_judged vary set xs s (Err (At f t)) is h = sym (facts_alike vary set xs s is) ∙ h
-facts_judged vary set xs s (Err OutOfMemory) is h = tt
+facts_judged vary set xs s (Err e) is h = subst (λ o. Reports OutOfMemory (option_map error_at o) e) (facts_alike vary set xs s is) h

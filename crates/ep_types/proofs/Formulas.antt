@@ -2,11 +2,12 @@
 use Rattle.std.proofs.Common.{◌≡◌, ℕ, List, [], ◌∷◌, ◌++◌, length, take, map, Result, refl, ap, sym, ◌∙◌, append_assoc, append-nil}
 use Rattle.ep_types.specs.Names.{Typings}
 use Rattle.ep_types.specs.Places.{Scope, scope, with_param, with_params, Uses, both, each}
-use Rattle.ep_types.specs.Uses.{production, formula_uses, formulas_uses}
+use Rattle.ep_types.specs.Uses.{equality_uses, production, formula_uses, formulas_uses}
 use Rattle.ep_types.specs.Faults.{IsJudged}
 use Rattle.ep_types.specs.declared.fault.TypeError.{TypeError}
 use Rattle.ep_types.specs.declared.scope.Declared.{Declared}
 use Rattle.ep_types.specs.declared.scope.Frame.{Frame}
+use Rattle.ep_tree.specs.declared.tree.Name.{Name}
 use Rattle.ep_tree.specs.declared.tree.ParamTree.{ParamTree}
 use Rattle.ep_tree.specs.declared.tree.FormulaTree.{FormulaTree}
 use Rattle.ep_tree.specs.declared.tree.FormulaTree.TheOpen as layer
@@ -22,6 +23,9 @@ uses-And t fs s = ap (λ z. formula_uses z s) (sym (tree.rolls-And t fs)) ∙ ap
 
 pub uses-Or : (t : ℕ) (fs : List FormulaTree) (s : Scope) → formula_uses (tree.Or t fs) s ≡ formulas_uses fs s
 uses-Or t fs s = ap (λ z. formula_uses z s) (sym (tree.rolls-Or t fs)) ∙ ap (λ k. k s) (fold-roll-FormulaTree (Scope → Uses) production (layer.Or t fs)) ∙ each_part s fs
+
+pub uses-Equal : (t : ℕ) (left right : Name) (s : Scope) → formula_uses (tree.Equal t left right) s ≡ equality_uses left right s
+uses-Equal t left right s = ap (λ z. formula_uses z s) (sym (tree.rolls-Equal t left right)) ∙ ap (λ k. k s) (fold-roll-FormulaTree (Scope → Uses) production (layer.Equal t left right))
 
 pub judged_as : (f : FormulaTree) (us : Uses) (s : Scope) (g : FormulaTree) (r : Result (Unit {0}) TypeError) → f ≡ g → formula_uses g s ≡ us → IsJudged us r → IsJudged (formula_uses f s) r
 judged_as f us s g r e u h = rw (e, u) h

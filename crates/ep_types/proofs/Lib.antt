@@ -8,3 +8,6 @@ pub mod Above
 pub mod Grown
 pub mod Orders
 pub mod Reaching
+pub mod TokenLemmas
+pub mod FormulaTokens
+pub mod TaskTokens

@@ -1,6 +1,4 @@
 -- The table of faults, row by row, and the first fault.
-use Rattle.std.specs.Prelude.{◌≡◌, ℕ, Bool, false, not, nat_eq, List, [], ◌∷◌, length, Option, Some, None, Result, Ok, Err, MatchResult, if◌then◌else◌, codes}
-use Rattle.std.specs.Option.{is_some, is_none}
 use Rattle.ep_types.specs.Atoms.{has_atom}
 use Rattle.ep_types.specs.Names.{Text, Typings, declared, is_among, is_below}
 use Rattle.ep_types.specs.Places.{type_of, Place, NewName, NewParam, ParamType, UsedName, UsedObject, UsedFluent, Fact, Argument, Agent, Group, Knowledge, Use, Uses, nothing, one, both}
@@ -8,6 +6,10 @@ use Rattle.ep_types.specs.declared.fault.TypeFault.{TypeFault}
 use Rattle.ep_types.specs.declared.fault.TypeFault.TheVariants.{TooManyParameters, Duplicate, Unknown, WrongArity, WrongType, NotAgent, EmptyGroup, NotObjective}
 use Rattle.ep_types.specs.declared.fault.TypeError.{TypeError}
 use Rattle.ep_types.specs.declared.fault.TypeError.TheVariants.{At, OutOfMemory}
+use Rattle.std.specs.Prelude.{◌≡◌, ℕ, Bool, false, not, nat_eq, List, [], ◌∷◌, length, Option, Some, None, option_map, Result, MatchResult, if◌then◌else◌, codes}
+use Rattle.std.specs.Option.{is_some, is_none, option_or}
+use Rattle.ep_base.specs.Refusals.{Reports}
+use Rattle.ep_binding.specs.declared.limits.TheConstants.{MOST_PARAMETERS}
 
 -- whether there is a type, and it is neither this one nor below it
 abbrev pub is_apart : Typings → Text → Option Text → Bool
@@ -19,11 +21,11 @@ abbrev pub has_other_count : ℕ → Option (List Text) → Bool
 has_other_count n None = false
 has_other_count n (Some kinds) = not (nat_eq n (length kinds))
 
--- the seventh parameter or parameter type of a list
-abbrev pub is_seventh : Place → Bool
-is_seventh (NewParam n x s) = nat_eq n 6
-is_seventh (ParamType n x names) = nat_eq n 6
-is_seventh _ = false
+-- a parameter or parameter type behind as many as a list may have
+abbrev pub is_one_too_many : Place → Bool
+is_one_too_many (NewParam n x s) = nat_eq n MOST_PARAMETERS
+is_one_too_many (ParamType n x names) = nat_eq n MOST_PARAMETERS
+is_one_too_many _ = false
 
 -- a declared name that its list already has, a parameter named like an object or a parameter in force, and a fact that is varied
 abbrev pub is_duplicate : Place → Bool
@@ -72,7 +74,7 @@ is_not_objective _ = false
 -- the table: each fault, and whether it is at what stands there
 abbrev pub table : Place → List (Bool × TypeFault)
 table p =
-    (is_seventh p, TooManyParameters)
+    (is_one_too_many p, TooManyParameters)
     ∷ (is_duplicate p, Duplicate)
     ∷ (is_unknown p, Unknown)
     ∷ (is_wrong_arity p, WrongArity)
@@ -94,26 +96,20 @@ abbrev pub located : ℕ → Option TypeFault → Option (TypeFault × ℕ)
 located t None = None
 located t (Some f) = Some (f, t)
 
-abbrev pub or_else : Option (TypeFault × ℕ) → Option (TypeFault × ℕ) → Option (TypeFault × ℕ)
-or_else None later = later
-or_else (Some p) later = Some p
-
 -- the first token with a fault
 abbrev pub first_fault : Uses → Option (TypeFault × ℕ)
 first_fault nothing = None
 first_fault (one u) = located u.token (fault_at u)
-first_fault (both us vs) = or_else (first_fault us) (first_fault vs)
+first_fault (both us vs) = option_or (first_fault us) (first_fault vs)
 
--- an error that tells the first fault, or that there is no memory
-abbrev pub Tells : Uses → TypeError → Type 0
-Tells us (At f t) = first_fault us ≡ Some (f, t)
-Tells us OutOfMemory = Unit {0}
+-- the error of a fault at a token
+abbrev pub error_at : TypeFault × ℕ → TypeError
+error_at p = At p.0 p.1
+
+-- the error of the first fault
+abbrev pub first_error : Uses → Option TypeError
+first_error us = option_map error_at (first_fault us)
 
 -- no fault where the answer is Ok, and else the first one, or want of memory
 abbrev pub IsJudged : {A : Type 0} → Uses → Result A TypeError → Type 0
-IsJudged us r = MatchResult r (λ _. first_fault us ≡ None) (Tells us)
-
--- the answer where no memory is taken
-abbrev pub told : Option (TypeFault × ℕ) → Result (Unit {0}) TypeError
-told None = Ok tt
-told (Some p) = Err (At p.0 p.1)
+IsJudged us r = MatchResult r (λ _. first_fault us ≡ None) (Reports OutOfMemory (first_error us))

@@ -1,4 +1,5 @@
 pub mod Atoms
+pub mod FaultTexts
 pub mod Faults
 pub mod Laws
 pub mod Links

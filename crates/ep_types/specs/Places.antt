@@ -1,5 +1,6 @@
 -- What stands at the tokens of a tree, and in which scope.
-use Rattle.std.specs.Prelude.{ℕ, Bool, true, false, List, [], ◌∷◌, ◌++◌, Option, None, Some}
+use Rattle.std.specs.Prelude.{ℕ, Bool, true, false, List, [], ◌∷◌, ◌++◌, Option}
+use Rattle.std.specs.Option.{option_or}
 use Rattle.ep_types.specs.Names.{Text, Typings, declared}
 use Rattle.ep_types.specs.declared.scope.Declared.{Declared}
 use Rattle.ep_types.specs.declared.scope.Frame.{Frame}
@@ -29,13 +30,9 @@ abbrev pub with_params : Scope → List ParamTree → Scope
 with_params s [] = s
 with_params s (p ∷ ps) = with_params (with_param s p) ps
 
-abbrev pub or_object : Option Text → Option Text → Option Text
-or_object None o = o
-or_object (Some kind) o = Some kind
-
 -- the type of a parameter in force, or else of an object
 abbrev pub type_of : Scope → Text → Option Text
-type_of s x = or_object (declared x s.params) (declared x s.names.objects)
+type_of s x = option_or (declared x s.params) (declared x s.names.objects)
 
 -- what stands at a token, with what it is judged by
 pub data Place : Type 0 where

@@ -24,7 +24,7 @@ impl Model for AtomSet {
 }
 
 /// The texts of an atom, as a key.
-fn atom_key(alloc: Global, atom: &AtomTree) -> Result<Vec<Vec<u8>>, AllocError>
+fn make_key(alloc: Global, atom: &AtomTree) -> Result<Vec<Vec<u8>>, AllocError>
     ensures { IfOk result (λ key. key_texts key ≡ atom_texts atom.now) }
 {
     let mut key = Vec::new(alloc);
@@ -48,7 +48,7 @@ impl AtomSet {
     pub fn add(&mut self, alloc: Global, atom: &AtomTree) -> Result<(), AllocError>
         ensures { OnOk result (self.new ≡ with_atom self.old (atom_texts atom.now)) }
     {
-        let key = atom_key(alloc, atom)?;
+        let key = make_key(alloc, atom)?;
         self.keys.insert(key)?;
         Ok(())
     }
@@ -57,7 +57,7 @@ impl AtomSet {
     pub fn has(&self, alloc: Global, atom: &AtomTree) -> Result<bool, AllocError>
         ensures { IfOk result (λ is_there. is_there ≡ has_atom (atom_texts atom.now) self.now) }
     {
-        let key = atom_key(alloc, atom)?;
+        let key = make_key(alloc, atom)?;
         Ok(self.keys.contains(&key))
     }
 }

@@ -6,7 +6,10 @@ ghost use Rattle.ep_types.specs.Places.{scope, with_params, both};
 ghost use Rattle.ep_types.specs.Uses.{param_uses, knower_uses, knowers_uses, equality_uses, formula_uses, formulas_uses};
 
 use crate::fault::TypeError;
-use crate::judge::{agent, atom, group, knowledge, new_param, used_object, used_type};
+use crate::judge::{
+    check_agent, check_atom, check_group, check_knowledge, check_new_param, check_used_object,
+    check_used_type,
+};
 use crate::scope::{Declared, Frame};
 use crate::table::copy_text;
 use ep_tree::{FormulaTree, GroupTree, Name, ParamTree};
@@ -14,7 +17,7 @@ use std::alloc::Global;
 
 /// Checks a list of parameters, and brings them into force.
 #[tactic(auto, using(crate::proofs::NamesLemmas::absent_among))]
-pub fn bring(
+pub fn bring_into_force(
     alloc: Global,
     names: &Declared,
     frame: &mut Frame,
@@ -24,8 +27,8 @@ pub fn bring(
     ensures in_force { OnOk result (scope names.now frame.new ≡ with_params (scope names.now frame.old) list.now) }
 {
     for (number, param) in list.iter().enumerate() {
-        new_param(names, frame, number, &param.name)?;
-        used_type(&names.types, &param.kind)?;
+        check_new_param(names, frame, number, &param.name)?;
+        check_used_type(&names.types, &param.kind)?;
         let kind = copy_text(alloc, &param.kind.text)?;
         frame.params.add(alloc, param.name.text.as_slice(), kind)?;
     }
@@ -33,32 +36,37 @@ pub fn bring(
 }
 
 /// `knows`, and the name behind it.
-fn knower(names: &Declared, frame: &Frame, token: u32, name: &Name) -> Result<(), TypeError>
+fn check_knower(names: &Declared, frame: &Frame, token: u32, name: &Name) -> Result<(), TypeError>
     ensures { IsJudged (knower_uses token name.now (scope names.now frame.now)) result }
 {
-    knowledge(frame, token)?;
-    agent(names, frame, name)
+    check_knowledge(frame, token)?;
+    check_agent(names, frame, name)
 }
 
 /// `common`, and the group behind it.
-fn knowers(names: &Declared, frame: &Frame, token: u32, who: &GroupTree) -> Result<(), TypeError>
+fn check_knowers(
+    names: &Declared,
+    frame: &Frame,
+    token: u32,
+    who: &GroupTree,
+) -> Result<(), TypeError>
     ensures { IsJudged (knowers_uses token who.now (scope names.now frame.now)) result }
 {
-    knowledge(frame, token)?;
-    group(names, frame, who)
+    check_knowledge(frame, token)?;
+    check_group(names, frame, who)
 }
 
 /// The two sides of an equality.
-fn sides(names: &Declared, frame: &Frame, left: &Name, right: &Name) -> Result<(), TypeError>
+fn check_sides(names: &Declared, frame: &Frame, left: &Name, right: &Name) -> Result<(), TypeError>
     ensures { IsJudged (equality_uses left.now right.now (scope names.now frame.now)) result }
 {
-    used_object(names, frame, left)?;
-    used_object(names, frame, right)
+    check_used_object(names, frame, left)?;
+    check_used_object(names, frame, right)
 }
 
 /// Checks a formula. The parameters in force stay.
 #[cycle(formula)]
-pub fn formula(
+pub fn check_formula_in(
     alloc: Global,
     names: &Declared,
     frame: &mut Frame,
@@ -70,15 +78,15 @@ pub fn formula(
     match tree {
         FormulaTree::True { .. } => Ok(()),
         FormulaTree::False { .. } => Ok(()),
-        FormulaTree::Atom { atom: inner } => atom(names, frame, inner),
-        FormulaTree::Not { inner, .. } => formula(alloc, names, frame, inner.get()),
+        FormulaTree::Atom { atom: inner } => check_atom(names, frame, inner),
+        FormulaTree::Not { inner, .. } => check_formula_in(alloc, names, frame, inner.get()),
         FormulaTree::Knows {
             token,
             agent: name,
             inner,
         } => {
-            knower(names, frame, *token, name)?;
-            formula(alloc, names, frame, inner.get())?;
+            check_knower(names, frame, *token, name)?;
+            check_formula_in(alloc, names, frame, inner.get())?;
             Ok(())
         }
         FormulaTree::Common {
@@ -86,26 +94,26 @@ pub fn formula(
             group: who,
             inner,
         } => {
-            knowers(names, frame, *token, who)?;
-            formula(alloc, names, frame, inner.get())?;
+            check_knowers(names, frame, *token, who)?;
+            check_formula_in(alloc, names, frame, inner.get())?;
             Ok(())
         }
         FormulaTree::Forall { params, inner, .. } => {
-            quantified(alloc, names, frame, params.as_slice(), inner.get())
+            check_quantified(alloc, names, frame, params.as_slice(), inner.get())
         }
         FormulaTree::Exists { params, inner, .. } => {
-            quantified(alloc, names, frame, params.as_slice(), inner.get())
+            check_quantified(alloc, names, frame, params.as_slice(), inner.get())
         }
-        FormulaTree::Equal { left, right, .. } => sides(names, frame, left, right),
-        FormulaTree::Paren { inner, .. } => formula(alloc, names, frame, inner.get()),
-        FormulaTree::And { parts, .. } => formulas(alloc, names, frame, parts.as_slice()),
-        FormulaTree::Or { parts, .. } => formulas(alloc, names, frame, parts.as_slice()),
+        FormulaTree::Equal { left, right, .. } => check_sides(names, frame, left, right),
+        FormulaTree::Paren { inner, .. } => check_formula_in(alloc, names, frame, inner.get()),
+        FormulaTree::And { parts, .. } => check_formulas(alloc, names, frame, parts.as_slice()),
+        FormulaTree::Or { parts, .. } => check_formulas(alloc, names, frame, parts.as_slice()),
     }
 }
 
 /// A formula behind a quantifier, whose parameters are in force in it alone.
 #[cycle(formula)]
-fn quantified(
+fn check_quantified(
     alloc: Global,
     names: &Declared,
     frame: &mut Frame,
@@ -116,15 +124,15 @@ fn quantified(
     ensures kept { OnOk result (frame.new ≡ frame.old) }
 {
     let before = frame.params.len();
-    bring(alloc, names, frame, params)?;
-    formula(alloc, names, frame, inner)?;
+    bring_into_force(alloc, names, frame, params)?;
+    check_formula_in(alloc, names, frame, inner)?;
     frame.params.truncate(before);
     Ok(())
 }
 
 /// The parts of a conjunction or a disjunction.
 #[cycle(formula)]
-fn formulas(
+fn check_formulas(
     alloc: Global,
     names: &Declared,
     frame: &mut Frame,
@@ -134,7 +142,7 @@ fn formulas(
     ensures kept { OnOk result (frame.new ≡ frame.old) }
 {
     for part in parts {
-        formula(alloc, names, frame, part)?;
+        check_formula_in(alloc, names, frame, part)?;
     }
     Ok(())
 }

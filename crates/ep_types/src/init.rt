@@ -10,9 +10,9 @@ ghost use Rattle.ep_types.specs.Uses.{fact_uses};
 
 use crate::atoms::AtomSet;
 use crate::fault::TypeError;
-use crate::formula::formula;
-use crate::judge::{fact, group, new_name};
-use crate::links::{atoms, designated};
+use crate::formula::check_formula_in;
+use crate::judge::{check_fact, check_group, check_new_name};
+use crate::links::{check_atoms, check_ends};
 use crate::scope::{Declared, Frame};
 use crate::table::Table;
 use ep_base::List;
@@ -20,7 +20,7 @@ use ep_tree::{AtomTree, FormulaTree, InitTree, LinkTree, Name, SeesTree, WorldTr
 use std::alloc::{AllocError, Global};
 
 /// Checks worlds, and adds them to those before.
-fn worlds(
+fn check_worlds(
     alloc: Global,
     names: &Declared,
     frame: &Frame,
@@ -31,15 +31,15 @@ fn worlds(
     ensures after { OnOk result (names_of before.new ≡ names_of before.old ++ spec.world_names list.now) }
 {
     for entry in list {
-        new_name(before, &entry.name)?;
-        atoms(names, frame, entry.atoms.as_slice())?;
+        check_new_name(before, &entry.name)?;
+        check_atoms(names, frame, entry.atoms.as_slice())?;
         before.add(alloc, entry.name.text.as_slice(), ())?;
     }
     Ok(())
 }
 
 /// Worlds behind those before, the designated ones and the links.
-fn worlds_and_links(
+fn check_worlds_and_links(
     alloc: Global,
     names: &Declared,
     frame: &Frame,
@@ -50,11 +50,11 @@ fn worlds_and_links(
 ) -> Result<(), TypeError>
     ensures { IsJudged (both (spec.world_uses (names_of before.old) list.now (scope names.now frame.now)) (spec.ends_uses (names_of before.old ++ spec.world_names list.now) chosen.now links.now (scope names.now frame.now))) result }
 {
-    worlds(alloc, names, frame, before, list.as_slice())?;
-    designated(names, frame, before, chosen.as_slice(), links.as_slice())
+    check_worlds(alloc, names, frame, before, list.as_slice())?;
+    check_ends(names, frame, before, chosen.as_slice(), links.as_slice())
 }
 
-fn explicit(
+fn check_explicit(
     alloc: Global,
     names: &Declared,
     frame: &Frame,
@@ -65,11 +65,11 @@ fn explicit(
     ensures { IsJudged (spec.explicit_uses list.now chosen.now links.now (scope names.now frame.now)) result }
 {
     let mut before = Table::new(alloc);
-    worlds_and_links(alloc, names, frame, &mut before, list, chosen, links)
+    check_worlds_and_links(alloc, names, frame, &mut before, list, chosen, links)
 }
 
 /// The varied atoms.
-fn varied(alloc: Global, list: &[AtomTree]) -> Result<AtomSet, AllocError>
+fn collect_varied(alloc: Global, list: &[AtomTree]) -> Result<AtomSet, AllocError>
     ensures { IfOk result (IsSetOf list.now) }
 {
     let mut set = AtomSet::new(alloc);
@@ -80,7 +80,7 @@ fn varied(alloc: Global, list: &[AtomTree]) -> Result<AtomSet, AllocError>
 }
 
 /// Checks facts, none of which is in a set.
-fn apart(
+fn check_facts_apart(
     alloc: Global,
     names: &Declared,
     frame: &Frame,
@@ -90,13 +90,13 @@ fn apart(
     ensures { IsJudged (each (λ a. fact_uses set.now a (scope names.now frame.now)) list.now) result }
 {
     for entry in list {
-        fact(alloc, names, frame, set, entry)?;
+        check_fact(alloc, names, frame, set, entry)?;
     }
     Ok(())
 }
 
 /// Checks facts, none of which is to be varied.
-fn facts(
+fn check_facts(
     alloc: Global,
     names: &Declared,
     frame: &Frame,
@@ -105,23 +105,23 @@ fn facts(
 ) -> Result<(), TypeError>
     ensures { IsJudged (spec.facts_uses vary.now list.now (scope names.now frame.now)) result }
 {
-    let set = varied(alloc, vary)?;
-    apart(alloc, names, frame, &set, list)
+    let set = collect_varied(alloc, vary)?;
+    check_facts_apart(alloc, names, frame, &set, list)
 }
 
 /// Checks who sees what.
-fn sees(names: &Declared, frame: &Frame, list: &[SeesTree]) -> Result<(), TypeError>
+fn check_sees(names: &Declared, frame: &Frame, list: &[SeesTree]) -> Result<(), TypeError>
     ensures { IsJudged (spec.sees_uses list.now (scope names.now frame.now)) result }
 {
     for entry in list {
-        group(names, frame, &entry.group)?;
-        atoms(names, frame, entry.atoms.as_slice())?;
+        check_group(names, frame, &entry.group)?;
+        check_atoms(names, frame, entry.atoms.as_slice())?;
     }
     Ok(())
 }
 
 /// The varied atoms, and the facts.
-fn given(
+fn check_given(
     alloc: Global,
     names: &Declared,
     frame: &Frame,
@@ -130,15 +130,15 @@ fn given(
 ) -> Result<(), TypeError>
     ensures { IsJudged (spec.given_uses vary.now known.now (scope names.now frame.now)) result }
 {
-    atoms(names, frame, vary.as_slice())?;
+    check_atoms(names, frame, vary.as_slice())?;
     match known {
         None => Ok(()),
-        Some(list) => facts(alloc, names, frame, vary.as_slice(), list.as_slice()),
+        Some(list) => check_facts(alloc, names, frame, vary.as_slice(), list.as_slice()),
     }
 }
 
 /// The law, who sees what, and the formula of the designated worlds.
-fn law(
+fn check_law(
     alloc: Global,
     names: &Declared,
     frame: &mut Frame,
@@ -148,12 +148,12 @@ fn law(
 ) -> Result<(), TypeError>
     ensures { IsJudged (spec.law_uses first.now seen.now chosen.now (scope names.now frame.old)) result }
 {
-    formula(alloc, names, frame, first)?;
-    sees(names, frame, seen.as_slice())?;
-    formula(alloc, names, frame, chosen)
+    check_formula_in(alloc, names, frame, first)?;
+    check_sees(names, frame, seen.as_slice())?;
+    check_formula_in(alloc, names, frame, chosen)
 }
 
-fn init_in(
+fn check_init_in(
     alloc: Global,
     names: &Declared,
     frame: &mut Frame,
@@ -166,7 +166,7 @@ fn init_in(
             worlds: list,
             designated: chosen,
             links,
-        } => explicit(alloc, names, frame, list, chosen, links),
+        } => check_explicit(alloc, names, frame, list, chosen, links),
         InitTree::Lawful {
             vary,
             facts: known,
@@ -174,15 +174,15 @@ fn init_in(
             sees: seen,
             designated: chosen,
         } => {
-            given(alloc, names, frame, vary, known)?;
-            law(alloc, names, frame, first, seen, chosen)
+            check_given(alloc, names, frame, vary, known)?;
+            check_law(alloc, names, frame, first, seen, chosen)
         }
     }
 }
 
-pub fn init(alloc: Global, names: &Declared, tree: &InitTree) -> Result<(), TypeError>
+pub fn check_init(alloc: Global, names: &Declared, tree: &InitTree) -> Result<(), TypeError>
     ensures { IsJudged (spec.init_uses tree.now (objective names.now)) result }
 {
     let mut frame = Frame::new(alloc, false);
-    init_in(alloc, names, &mut frame, tree)
+    check_init_in(alloc, names, &mut frame, tree)
 }

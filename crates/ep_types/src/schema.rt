@@ -7,9 +7,9 @@ ghost use Rattle.ep_types.specs.Places.{scope, closed, both};
 ghost use Rattle.ep_types.specs.Tasks as spec;
 
 use crate::fault::TypeError;
-use crate::formula::{bring, formula};
-use crate::judge::{atom, group, new_name};
-use crate::links::designated;
+use crate::formula::{bring_into_force, check_formula_in};
+use crate::judge::{check_atom, check_group, check_new_name};
+use crate::links::check_ends;
 use crate::scope::{Declared, Frame};
 use crate::table::Table;
 use ep_base::List;
@@ -17,7 +17,7 @@ use ep_tree::{BodyTree, EventTree, FormulaTree, GroupTree, LinkTree, Name, Schem
 use std::alloc::Global;
 
 /// Checks assignments. The parameters in force stay.
-fn sets(
+fn check_sets(
     alloc: Global,
     names: &Declared,
     frame: &mut Frame,
@@ -27,14 +27,14 @@ fn sets(
     ensures kept { OnOk result (frame.new ≡ frame.old) }
 {
     for entry in list {
-        atom(names, frame, &entry.atom)?;
-        formula(alloc, names, frame, &entry.value)?;
+        check_atom(names, frame, &entry.atom)?;
+        check_formula_in(alloc, names, frame, &entry.value)?;
     }
     Ok(())
 }
 
 /// A condition, and the assignments under it.
-fn effect(
+fn check_effect(
     alloc: Global,
     names: &Declared,
     frame: &mut Frame,
@@ -44,12 +44,12 @@ fn effect(
     ensures judged { IsJudged (spec.effect_uses condition.now list.now (scope names.now frame.old)) result }
     ensures kept { OnOk result (frame.new ≡ frame.old) }
 {
-    formula(alloc, names, frame, condition)?;
-    sets(alloc, names, frame, list.as_slice())
+    check_formula_in(alloc, names, frame, condition)?;
+    check_sets(alloc, names, frame, list.as_slice())
 }
 
 /// Checks events, and adds them to those before.
-fn events(
+fn check_events(
     alloc: Global,
     names: &Declared,
     frame: &mut Frame,
@@ -61,15 +61,15 @@ fn events(
     ensures after { OnOk result (names_of before.new ≡ names_of before.old ++ spec.event_names list.now) }
 {
     for entry in list {
-        new_name(before, &entry.name)?;
-        effect(alloc, names, frame, &entry.pre, &entry.sets)?;
+        check_new_name(before, &entry.name)?;
+        check_effect(alloc, names, frame, &entry.pre, &entry.sets)?;
         before.add(alloc, entry.name.text.as_slice(), ())?;
     }
     Ok(())
 }
 
 /// Events behind those before, the designated ones and the links.
-fn events_and_links(
+fn check_events_and_links(
     alloc: Global,
     names: &Declared,
     frame: &mut Frame,
@@ -80,11 +80,11 @@ fn events_and_links(
 ) -> Result<(), TypeError>
     ensures { IsJudged (both (spec.event_uses (names_of before.old) list.now (scope names.now frame.old)) (spec.ends_uses (names_of before.old ++ spec.event_names list.now) chosen.now links.now (scope names.now frame.old))) result }
 {
-    events(alloc, names, frame, before, list.as_slice())?;
-    designated(names, frame, before, chosen.as_slice(), links.as_slice())
+    check_events(alloc, names, frame, before, list.as_slice())?;
+    check_ends(names, frame, before, chosen.as_slice(), links.as_slice())
 }
 
-fn general(
+fn check_general(
     alloc: Global,
     names: &Declared,
     frame: &mut Frame,
@@ -95,11 +95,11 @@ fn general(
     ensures { IsJudged (spec.general_uses list.now chosen.now links.now (scope names.now frame.old)) result }
 {
     let mut before = Table::new(alloc);
-    events_and_links(alloc, names, frame, &mut before, list, chosen, links)
+    check_events_and_links(alloc, names, frame, &mut before, list, chosen, links)
 }
 
 /// What is told or found out, and the group.
-fn told(
+fn check_told(
     alloc: Global,
     names: &Declared,
     frame: &mut Frame,
@@ -108,12 +108,12 @@ fn told(
 ) -> Result<(), TypeError>
     ensures { IsJudged (spec.told_uses what.now who.now (scope names.now frame.old)) result }
 {
-    formula(alloc, names, frame, what)?;
-    group(names, frame, who)?;
+    check_formula_in(alloc, names, frame, what)?;
+    check_group(names, frame, who)?;
     Ok(())
 }
 
-fn body(
+fn check_body(
     alloc: Global,
     names: &Declared,
     frame: &mut Frame,
@@ -122,20 +122,20 @@ fn body(
     ensures { IsJudged (spec.body_uses tree.now (scope names.now frame.old)) result }
 {
     match tree {
-        BodyTree::Announce { what } => formula(alloc, names, frame, what),
-        BodyTree::Private { what, group: who } => told(alloc, names, frame, what, who),
-        BodyTree::Sense { what, group: who } => told(alloc, names, frame, what, who),
-        BodyTree::Assign { guard, sets: list } => effect(alloc, names, frame, guard, list),
+        BodyTree::Announce { what } => check_formula_in(alloc, names, frame, what),
+        BodyTree::Private { what, group: who } => check_told(alloc, names, frame, what, who),
+        BodyTree::Sense { what, group: who } => check_told(alloc, names, frame, what, who),
+        BodyTree::Assign { guard, sets: list } => check_effect(alloc, names, frame, guard, list),
         BodyTree::Events {
             events: list,
             designated: chosen,
             links,
-        } => general(alloc, names, frame, list, chosen, links),
+        } => check_general(alloc, names, frame, list, chosen, links),
     }
 }
 
 /// The parameters and the body of a schema.
-fn inner(
+fn check_params_and_body(
     alloc: Global,
     names: &Declared,
     frame: &mut Frame,
@@ -143,19 +143,19 @@ fn inner(
 ) -> Result<(), TypeError>
     ensures { IsJudged (spec.inner_uses tree.now (scope names.now frame.old)) result }
 {
-    bring(alloc, names, frame, tree.params.as_slice())?;
-    body(alloc, names, frame, &tree.body)
+    bring_into_force(alloc, names, frame, tree.params.as_slice())?;
+    check_body(alloc, names, frame, &tree.body)
 }
 
-fn schema(alloc: Global, names: &Declared, tree: &SchemaTree) -> Result<(), TypeError>
+fn check_schema(alloc: Global, names: &Declared, tree: &SchemaTree) -> Result<(), TypeError>
     ensures { IsJudged (spec.inner_uses tree.now (closed names.now)) result }
 {
     let mut frame = Frame::new(alloc, true);
-    inner(alloc, names, &mut frame, tree)
+    check_params_and_body(alloc, names, &mut frame, tree)
 }
 
 /// Checks schemas behind those before.
-fn schemas_behind(
+fn check_schemas_behind(
     alloc: Global,
     names: &Declared,
     before: &mut Table<()>,
@@ -164,16 +164,16 @@ fn schemas_behind(
     ensures { IsJudged (spec.schema_uses (names_of before.old) list.now names.now) result }
 {
     for entry in list {
-        new_name(before, &entry.name)?;
-        schema(alloc, names, entry)?;
+        check_new_name(before, &entry.name)?;
+        check_schema(alloc, names, entry)?;
         before.add(alloc, entry.name.text.as_slice(), ())?;
     }
     Ok(())
 }
 
-pub fn schemas(alloc: Global, names: &Declared, list: &[SchemaTree]) -> Result<(), TypeError>
+pub fn check_schemas(alloc: Global, names: &Declared, list: &[SchemaTree]) -> Result<(), TypeError>
     ensures { IsJudged (spec.schema_uses [] list.now names.now) result }
 {
     let mut before = Table::new(alloc);
-    schemas_behind(alloc, names, &mut before, list)
+    check_schemas_behind(alloc, names, &mut before, list)
 }

@@ -45,7 +45,7 @@ impl Frame {
 }
 
 /// The type of a parameter in force, or else of an object.
-pub fn type_of<'a>(names: &'a Declared, frame: &'a Frame, name: &[u8]) -> Option<&'a List<u8>>
+pub fn find_type<'a>(names: &'a Declared, frame: &'a Frame, name: &[u8]) -> Option<&'a List<u8>>
     ensures { option_copied result ≡ spec.type_of (spec.scope names.now frame.now) name.now }
 {
     match frame.params.get(name) {

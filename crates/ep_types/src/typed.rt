@@ -1,7 +1,8 @@
 //! Checked tasks.
 
 ghost use Rattle.std.specs.Prelude.{◌≡◌, ◌<◌, ◌↔◌, length, position, slice_get, Some, IsTrue, IfOk, IfErr};
-ghost use Rattle.ep_types.specs.Faults.{IsJudged, Tells};
+ghost use Rattle.ep_base.specs.Refusals.{Reports};
+ghost use Rattle.ep_types.specs.Faults.{IsJudged, first_error};
 ghost use Rattle.ep_types.specs.Names.{is_below, is_text, names_of, values_of, Reaches};
 ghost use Rattle.ep_types.specs.Places.{closed};
 ghost use Rattle.ep_types.specs.Tasks.{HasNoFault, declarations, task_uses};
@@ -9,7 +10,7 @@ ghost use Rattle.ep_types.specs.Uses.{formula_uses};
 
 use crate::fault::TypeError;
 use crate::scope::Declared;
-use crate::task::{closed_formula, task};
+use crate::task::{check_closed_formula, check_task};
 use ep_base::List;
 use ep_tree::{FormulaTree, TaskTree};
 use std::alloc::Global;
@@ -47,6 +48,13 @@ impl Model for Typed {
 }
 
 impl Typed {
+    /// What is known of every typed task. It does nothing: a proof calls it where the code asks nothing of the task.
+    pub fn known(&self)
+        ensures { HasNoFault self.now }
+    {
+        let _tree = &self.tree;
+    }
+
     /// The checked tree.
     pub fn tree(&self) -> &TaskTree
         ensures tree { result.now ≡ self.now }
@@ -113,9 +121,9 @@ impl Typed {
 pub fn check(alloc: Global, tree: TaskTree) -> Result<Typed, TypeError>
     ensures tree { IfOk result (λ typed. typed ≡ tree) }
     ensures typed { IfOk result (λ _. HasNoFault tree) }
-    ensures fault { IfErr result (Tells (task_uses tree)) }
+    ensures fault { IfErr result (Reports TypeError.OutOfMemory (first_error (task_uses tree))) }
 {
-    let names = task(alloc, &tree)?;
+    let names = check_task(alloc, &tree)?;
     Ok(Typed { tree, names })
 }
 
@@ -123,5 +131,5 @@ pub fn check(alloc: Global, tree: TaskTree) -> Result<Typed, TypeError>
 pub fn check_formula(alloc: Global, typed: &Typed, f: &FormulaTree) -> Result<(), TypeError>
     ensures { IsJudged (formula_uses f.now (closed (declarations typed.now))) result }
 {
-    closed_formula(alloc, &typed.names, f)
+    check_closed_formula(alloc, &typed.names, f)
 }

@@ -74,7 +74,7 @@ fn far_of(rows: &Table<TypeRow>, at: usize) -> usize
 }
 
 /// The number of a type on the way up that is no higher than a depth.
-fn next(rows: &Table<TypeRow>, at: usize, depth: usize) -> usize
+fn find_next(rows: &Table<TypeRow>, at: usize, depth: usize) -> usize
     requires linked { AreLinked rows.now }
     requires there { at < length rows.now }
     requires deep { depth < depth_at rows.now at }
@@ -101,14 +101,14 @@ fn climbs_to(rows: &Table<TypeRow>, kind: usize, above: usize) -> bool
     let depth = depth_of(rows, above);
     let mut at = kind;
     while depth_of(rows, at) > depth {
-        at = next(rows, at, depth);
+        at = find_next(rows, at, depth);
     }
     at == above
 }
 
 /// The number of a type at or above another one, which the next below is to know:
 /// the steps to it double where the two steps before it are as long.
-fn far_from(rows: &Table<TypeRow>, up: usize) -> usize
+fn choose_far(rows: &Table<TypeRow>, up: usize) -> usize
     requires linked { AreLinked rows.now }
     requires there { up < length rows.now }
     ensures { IsAbove rows.now up result }
@@ -124,7 +124,7 @@ fn far_from(rows: &Table<TypeRow>, up: usize) -> usize
 }
 
 /// A type below one that is there.
-fn row_below(
+fn make_row(
     alloc: Global,
     rows: &Table<TypeRow>,
     up: usize,
@@ -139,7 +139,7 @@ fn row_below(
 {
     let count = rows.len();
     prove!(up < count);
-    let far = far_from(rows, up);
+    let far = choose_far(rows, up);
     let depth = depth_of(rows, up) + 1;
     let parent = List::from_vec(Vec::from_slice(alloc, parent)?);
     Ok(TypeRow {
@@ -151,7 +151,7 @@ fn row_below(
 }
 
 /// Whether a type is another one or below it, by their names.
-fn below(rows: &Table<TypeRow>, kind: &[u8], above: &[u8]) -> bool
+fn is_name_below(rows: &Table<TypeRow>, kind: &[u8], above: &[u8]) -> bool
     requires { AreLinked rows.now }
     ensures { result ≡ is_below (typings rows.now) kind.now above.now }
 {
@@ -164,7 +164,7 @@ fn below(rows: &Table<TypeRow>, kind: &[u8], above: &[u8]) -> bool
     }
 }
 
-fn first_types(alloc: Global) -> Result<Types, AllocError>
+fn make_first_types(alloc: Global) -> Result<Types, AllocError>
     ensures { IfOk result (λ types. types ≡ (codes "object", codes "object") ∷ []) }
 {
     let parent = List::from_vec(Vec::from_slice(alloc, b"object")?);
@@ -187,7 +187,7 @@ impl Types {
     pub fn start(alloc: Global) -> Result<Types, AllocError>
         ensures { IfOk result (λ types. types ≡ (codes "object", codes "object") ∷ (codes "agent", codes "object") ∷ []) }
     {
-        let mut types = first_types(alloc)?;
+        let mut types = make_first_types(alloc)?;
         types.add(alloc, b"agent", b"object")?;
         Ok(types)
     }
@@ -204,7 +204,7 @@ impl Types {
         ensures value { result ≡ is_below self.now kind.now above.now }
         ensures reaches { IsTrue result ↔ Reaches self.now kind.now above.now }
     {
-        below(&self.rows, kind, above)
+        is_name_below(&self.rows, kind, above)
     }
 
     /// Adds a type that is not there, below one that is.
@@ -214,7 +214,7 @@ impl Types {
         ensures { OnOk result (self.new ≡ self.old ++ (name.now, parent.now) ∷ []) }
     {
         let up = self.rows.index(parent).unwrap();
-        let row = row_below(alloc, &self.rows, up, parent)?;
+        let row = make_row(alloc, &self.rows, up, parent)?;
         self.rows.add(alloc, name, row)?;
         Ok(())
     }

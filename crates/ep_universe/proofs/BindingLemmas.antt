@@ -4,7 +4,7 @@ use Rattle.std.specs.Prelude.{◌==◌}
 use Rattle.std.specs.Cmp.Lexicographic.{pointwise}
 use Rattle.std.specs.List.{list_any, list_all, flat_map}
 use Rattle.std.proofs.lemmas.List.Folds.{list_any-append, list_all-append}
-use Rattle.ep_theory.specs.Numbers.{numbers_where, has_number}
+use Rattle.ep_logic.specs.Numbers.{numbers_where, has_number}
 use Rattle.ep_binding.specs.Bindings.{bindings, with_first}
 use Rattle.ep_universe.proofs.LookupLemmas.{by_bool}
 

@@ -3,7 +3,8 @@ use Rattle.std.proofs.Common.{◌≡◌, ℕ, ◌+◌, ◌≤◌, Bool, true, fa
 use Rattle.std.specs.Prelude.{◌==◌}
 use Rattle.ep_logic.specs.declared.formula.Node.{Node}
 use Rattle.ep_logic.specs.declared.formula.Node.TheVariants as node
-use Rattle.ep_logic.specs.Nodes.{depth_of, largest}
+use Rattle.ep_base.specs.Numbers.{largest}
+use Rattle.ep_logic.specs.Nodes.{depth_of}
 use Rattle.ep_binding.specs.Bindings.{bindings}
 use Rattle.ep_tree.specs.declared.tree.ParamTree.{ParamTree}
 use Rattle.ep_tree.specs.declared.tree.FormulaTree.{FormulaTree, roll-FormulaTree}
@@ -13,9 +14,10 @@ use Rattle.ep_types.specs.declared.scope.Declared.{Declared}
 use Rattle.ep_universe.specs.Objects.{Binding, object_at, agent_at, group_of, candidates, bound}
 use Rattle.ep_universe.specs.Atoms.{atom_at}
 use Rattle.ep_universe.specs.Formulas.{ground_of, ground_layer, conjunction, disjunction, instances}
-use Rattle.ep_universe.specs.Sizes.{nesting, nesting_layer}
+use Rattle.ep_tree.specs.Nesting.{nesting, nesting_layer}
+use Rattle.ep_tree.proofs.CallerLemmas.{nesting-roll}
 use Rattle.ep_universe.proofs.NodeLemmas.{depth-True, depth-False, depth-Atom, depth-Not, depth-And, depth-Or, depth-Knows, depth-Common}
-use Rattle.ep_universe.proofs.TreeLemmas.{ground-roll, nesting-roll}
+use Rattle.ep_universe.proofs.TreeLemmas.{ground-roll}
 
 conjunction-shallow : (ns : List Node) → depth_of (conjunction ns) ≤ largest (map depth_of ns) + 1
 conjunction-shallow [] = let e = depth-True in omega arith

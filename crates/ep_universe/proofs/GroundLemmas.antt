@@ -8,7 +8,7 @@ use Rattle.std.proofs.lemmas.List.Elements.{All-nil, All-cons}
 use Rattle.std.proofs.Math.Nat.{mul-le-mul_left, mul-le-mul_right}
 use Rattle.ep_logic.specs.declared.formula.Node.{Node}
 use Rattle.ep_logic.specs.declared.formula.Node.TheVariants as node
-use Rattle.ep_logic.specs.Nodes.{largest}
+use Rattle.ep_base.specs.Numbers.{largest}
 use Rattle.ep_binding.specs.Bindings.{bindings, binding_count}
 use Rattle.ep_tree.specs.declared.tree.Name.{Name}
 use Rattle.ep_tree.specs.declared.tree.GroupTree.{GroupTree}
@@ -21,7 +21,8 @@ use Rattle.ep_types.specs.declared.scope.Declared.{Declared}
 use Rattle.ep_universe.specs.Objects.{Binding, agent_at, group_of, candidates, bound}
 use Rattle.ep_universe.specs.Formulas.{ground_of, conjunction, disjunction, instances}
 use Rattle.ep_universe.specs.Counts.{ground_count, count_layer, repeated}
-use Rattle.ep_universe.specs.Sizes.{nesting, is_whole, has_member, IsBuildable, AreBuildable, IsRepeatable, IsMakeable}
+use Rattle.ep_tree.specs.Nesting.{nesting}
+use Rattle.ep_universe.specs.Sizes.{is_whole, has_member, IsBuildable, AreBuildable, IsRepeatable, IsMakeable}
 use Rattle.ep_universe.proofs.CountLemmas.{counted, length-bindings}
 use Rattle.ep_universe.proofs.DepthLemmas.{shallow}
 use Rattle.ep_universe.proofs.TreeLemmas.{count-roll, count-Not, count-Knows, count-Common, count-Forall, count-Exists, count-Paren, count-And, count-Or, nesting-Not, nesting-Knows, nesting-Common, nesting-Forall, nesting-Exists, nesting-Paren, nesting-And, nesting-Or, whole-Not, whole-Knows, whole-Common, whole-Forall, whole-Exists, whole-Paren, whole-And, whole-Or, ground-Not, ground-Knows, ground-Common, ground-Forall, ground-Exists, ground-And, ground-Or}

@@ -1,15 +1,16 @@
 -- Groups, one member more at a time, and their members.
-use Rattle.std.proofs.Common.{◌≡◌, ℕ, zero, suc, ◌+◌, ◌<◌, ◌≤◌, Bool, true, false, ◌||◌, not, IsTrue, Option, Some, None, unwrap_or, position, List, [], ◌∷◌, ◌++◌, length, map, take, drop, get_or, set, refl, ap, sym, ◌∙◌, arith}
+use Rattle.std.proofs.Common.{◌≡◌, ℕ, zero, suc, ◌+◌, ◌<◌, ◌≤◌, Bool, true, false, ◌||◌, not, IsTrue, Option, Some, None, unwrap_or, position, List, [], ◌∷◌, ◌++◌, length, map, take, drop, get_or, set, refl, ap, sym, ◌∙◌, arith, nat_lt}
 use Rattle.std.specs.Prelude.{◌==◌}
 use Rattle.std.specs.List.{list_any}
+use Rattle.std.proofs.lemmas.Bool.Decides.{nat_tests}
 use Rattle.std.proofs.lemmas.List.{take_more, map-append, length-drop, get_or-drop}
 use Rattle.std.proofs.lemmas.List.Quantifiers.{position-Some}
-use Rattle.ep_logic.specs.AgentSets.{is_nobody}
-use Rattle.ep_theory.specs.Numbers.{has_number}
+use Rattle.ep_logic.specs.AgentSets.{first_agents, is_nobody}
+use Rattle.ep_logic.specs.Numbers.{has_number}
 use Rattle.ep_tree.specs.declared.tree.Name.{Name}
 use Rattle.ep_tree.specs.declared.tree.GroupTree.TheVariants.{Members}
 use Rattle.ep_types.specs.declared.scope.Declared.{Declared}
-use Rattle.ep_universe.specs.Limits.{IsWithin}
+use Rattle.ep_universe.specs.Universe.{HasFewNames}
 use Rattle.ep_universe.specs.Objects.{Binding, object_at, agent_at, agents_of, eight}
 use Rattle.ep_universe.specs.Sizes.{has_member}
 
@@ -103,12 +104,18 @@ members_below d b (x ∷ xs) h a l =
     let below = agent_below d b x h in
     ap (λ c. c || has_number (map (agent_at d b) xs) a) (equal (agent_at d b x) a (omega (arith, below))) ∙ members_below d b xs h a l
 
-pub members-within : (d : Declared) (b : Binding) (xs : List Name) → IsWithin d → is_nobody (drop (length (agents_of d)) (eight (has_number (map (agent_at d b) xs)))) ≡ true
+pub members-within : (d : Declared) (b : Binding) (xs : List Name) → HasFewNames d → is_nobody (drop (length (agents_of d)) (eight (has_number (map (agent_at d b) xs)))) ≡ true
 members-within d b xs w = nobody (has_number (map (agent_at d b) xs)) (length (agents_of d)) (λ a l. members_below d b xs w.some_agent a l)
 
-pub members-some : (d : Declared) (b : Binding) (t : ℕ) (xs : List Name) → IsWithin d → IsTrue (has_member (Members t xs)) → is_nobody (eight (has_number (map (agent_at d b) xs))) ≡ false
+pub members-some : (d : Declared) (b : Binding) (t : ℕ) (xs : List Name) → HasFewNames d → IsTrue (has_member (Members t xs)) → is_nobody (eight (has_number (map (agent_at d b) xs))) ≡ false
 members-some d b t [] w h = absurd (cc)
 members-some d b t (x ∷ xs) w h =
     let below = agent_below d b x w.some_agent in
     let few = w.few_agents in
     somebody (has_number (map (agent_at d b) (x ∷ xs))) (agent_at d b x) (omega (arith, below, few)) (ap (λ c. c || has_number (map (agent_at d b) xs) (agent_at d b x)) (same (agent_at d b x)))
+
+not_below : (a n : ℕ) → n ≤ a → nat_lt a n ≡ false
+not_below a n h = grind (arith, nat_tests)
+
+pub all-within : (n : ℕ) → is_nobody (drop n (first_agents n)) ≡ true
+all-within n = nobody (λ i. nat_lt i n) n (λ a l. not_below a n l)

@@ -2,7 +2,7 @@
 use Rattle.std.proofs.Common.{◌≡◌, ℕ, suc, ◌<◌, true, List, [], ◌∷◌, Some, length, get_or, refl, ap, sym, ◌∙◌, subst, arith}
 use Rattle.std.specs.Prelude.{◌==◌, Contains}
 use Rattle.std.proofs.lemmas.List.Folds.{list_any_at}
-use Rattle.ep_theory.specs.Numbers.{has_number}
+use Rattle.ep_logic.specs.Numbers.{has_number}
 use Rattle.ep_tree.specs.declared.tree.TaskTree.{TaskTree}
 use Rattle.ep_types.specs.Names.{Text, declared, is_below}
 use Rattle.ep_types.specs.Places.{closed}
@@ -11,7 +11,8 @@ use Rattle.ep_types.specs.declared.scope.Declared.{Declared}
 use Rattle.ep_universe.specs.Objects.{candidates}
 use Rattle.ep_universe.specs.Typing.{StandsFor, Suits, FormulasFit, AtomsStand, AgentsStand, BindingsSuit, FormulasBuild}
 use Rattle.ep_universe.proofs.BindingLemmas.{HasEach, itself}
-use Rattle.ep_universe.proofs.SizeLemmas.{whole, nested}
+use Rattle.ep_tree.proofs.CallerLemmas.{nested_formula}
+use Rattle.ep_universe.proofs.SizeLemmas.{whole}
 use Rattle.ep_universe.proofs.TypeOrder.{below_trans}
 use Rattle.ep_universe.proofs.TypingLemmas.{formula_fits, atom_stands, agent_stands, bound_suits}
 
@@ -42,8 +43,7 @@ suits d params objects h = bound_suits d true params objects (each_of (candidate
 
 pub build : FormulasBuild
 build d s f formed shallow fine small =
-    let n = nested f 1 shallow in
-    record { whole = whole f s formed fine; nodes = small; nested = omega (arith, n) }
+    record { whole = whole f s formed fine; nodes = small; nested = nested_formula f shallow }
 
 -- where no parameter is in force nothing is bound
 pub nothing_bound : (d : Declared) → Suits (closed d) []

@@ -6,7 +6,8 @@ use Rattle.ep_logic.specs.declared.formula.Node.{Node}
 use Rattle.ep_logic.specs.declared.formula.Node.TheOpen.{Node-F}
 use Rattle.ep_logic.specs.declared.formula.Node.TheVariants as node
 use Rattle.ep_logic.specs.declared.formula.Node.TheFolds.{fold-roll-Node}
-use Rattle.ep_logic.specs.Nodes.{node_count, count_step, depth_of, depth_step, largest}
+use Rattle.ep_logic.specs.Nodes.{node_count, count_step, depth_of, depth_step}
+use Rattle.ep_base.specs.Numbers.{largest}
 
 pub count-True : node_count node.True ≡ 1
 count-True = ap node_count (sym node.rolls-True) ∙ fold-roll-Node ℕ count_step Node-F.True

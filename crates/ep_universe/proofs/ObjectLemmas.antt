@@ -1,6 +1,6 @@
 -- Objects, one more at a time.
 use Rattle.std.proofs.Common.{◌≡◌, ℕ, zero, suc, ◌+◌, ◌<◌, ◌≤◌, Bool, cond, List, [], ◌∷◌, ◌++◌, length, take, get_or, refl, ap, ◌∙◌, arith}
-use Rattle.ep_theory.specs.Numbers.{numbers_where}
+use Rattle.ep_logic.specs.Numbers.{numbers_where}
 use Rattle.ep_tree.specs.declared.tree.ParamTree.{ParamTree}
 use Rattle.ep_universe.specs.Objects.{bound}
 

@@ -3,12 +3,7 @@ use Rattle.std.proofs.Common.{◌≡◌, ℕ, suc, ◌+◌, ◌≤◌, Bool, tru
 use Rattle.std.specs.List.{list_all}
 use Rattle.std.proofs.lemmas.Bool.Decides.{nat_tests}
 use Rattle.std.proofs.lemmas.List.{length-map}
-use Rattle.ep_logic.specs.Nodes.{largest}
 use Rattle.ep_tree.specs.Formed.{formed_layer, formed_formula, formed_group, formed_name, formed_params, is_true}
-use Rattle.ep_tree.specs.Marks.{Mark, IsShallow, fixed}
-use Rattle.ep_tree.specs.Spelling as spell
-use Rattle.ep_tree.specs.declared.terminal.Terminal.{Terminal}
-use Rattle.ep_tree.specs.declared.terminal.Terminal.TheVariants as the
 use Rattle.ep_tree.specs.declared.tree.GroupTree.{GroupTree}
 use Rattle.ep_tree.specs.declared.tree.GroupTree.TheVariants.{All, Members}
 use Rattle.ep_tree.specs.declared.tree.FormulaTree.{FormulaTree, roll-FormulaTree}
@@ -17,8 +12,8 @@ use Rattle.ep_tree.specs.declared.tree.FormulaTree.TheFolds.{map-FormulaTree, fo
 use Rattle.ep_types.specs.Faults.{first_fault, first_row, table}
 use Rattle.ep_types.specs.Places.{Scope, Uses, with_params, at, each, Group, Knowledge}
 use Rattle.ep_types.specs.Uses.{param_uses, agent_uses, group_uses, knower_uses, knowers_uses, production, formula_uses}
-use Rattle.ep_universe.specs.Sizes.{nesting, nesting_layer, is_whole, whole_layer, has_member}
-use Rattle.ep_universe.proofs.TreeLemmas.{nesting-roll, whole-roll}
+use Rattle.ep_universe.specs.Sizes.{is_whole, whole_layer, has_member}
+use Rattle.ep_universe.proofs.TreeLemmas.{whole-roll}
 use Rattle.ep_universe.proofs.TypedLemmas.{both-none, located-none, row-none}
 
 both_left : (a b : Bool) → (a && b) ≡ true → a ≡ true
@@ -34,7 +29,7 @@ both_right false b h = absurd (cc)
 some : (n : ℕ) → nat_eq n 0 ≡ false → nat_le 1 n ≡ true
 some n h = grind (arith, nat_tests)
 
-group_some : (g : GroupTree) (s : Scope) → first_fault (group_uses g s) ≡ None → has_member g ≡ true
+pub group_some : (g : GroupTree) (s : Scope) → first_fault (group_uses g s) ≡ None → has_member g ≡ true
 group_some (All token) s h = refl
 group_some (Members token xs) s h =
     let parts = both-none (at token (Group (length xs))) (agent_uses xs s) h in
@@ -96,65 +91,3 @@ whole_rolled x y e = subst (λ (x : FormulaTree-F FormulaTree). IsWhole (roll-Fo
 
 pub whole : (f : FormulaTree) → IsWhole f
 whole = ind-FormulaTree IsWhole whole_rolled
-
--- ---- nesting
-
-front : (xs ys : List Mark) → IsShallow (xs ++ ys) → IsShallow xs
-front [] ys h = tt
-front (x ∷ xs) ys h = (h.0, front xs ys h.1)
-
-behind : (xs ys : List Mark) → IsShallow (xs ++ ys) → IsShallow ys
-behind [] ys h = h
-behind (x ∷ xs) ys h = behind xs ys h.1
-
-abbrev IsNested : FormulaTree → Type 0
-IsNested f = (k : ℕ) → IsShallow (spell.formula_at f k) → nesting f + k ≤ 65
-
-behind_nested : (t : Terminal) (k : ℕ) (fs : List ((f : FormulaTree) × IsNested f)) → k ≤ 65 → IsShallow (spell.behind t (spell.parts_at k (map spell.formula_at (map (λ e. e.0) fs)))) →
-    largest (map nesting (map (λ e. e.0) fs)) + k ≤ 65
-behind_nested t k [] l h = omega arith
-behind_nested t k (f ∷ fs) l h =
-    let rest = spell.behind t (spell.parts_at k (map spell.formula_at (map (λ e. e.0) fs))) in
-    let here = f.1 k (front (spell.formula_at f.0 k) rest h.1) in
-    let later = behind_nested t k fs l (behind (spell.formula_at f.0 k) rest h.1) in
-    omega (arith, here, later)
-
-between_nested : (t : Terminal) (k : ℕ) (fs : List ((f : FormulaTree) × IsNested f)) → k ≤ 65 → IsShallow (spell.between t (spell.parts_at k (map spell.formula_at (map (λ e. e.0) fs)))) →
-    largest (map nesting (map (λ e. e.0) fs)) + k ≤ 65
-between_nested t k [] l h = omega arith
-between_nested t k (f ∷ fs) l h =
-    let rest = spell.behind t (spell.parts_at k (map spell.formula_at (map (λ e. e.0) fs))) in
-    let here = f.1 k (front (spell.formula_at f.0 k) rest h) in
-    let later = behind_nested t k fs l (behind (spell.formula_at f.0 k) rest h) in
-    omega (arith, here, later)
-
-nested_level : (k : ℕ) (y : FormulaTree-F ((f : FormulaTree) × IsNested f)) →
-    IsShallow (spell.production (map-FormulaTree FormulaTree (ℕ → List Mark) spell.formula_at (map-FormulaTree ((f : FormulaTree) × IsNested f) FormulaTree (λ e. e.0) y)) k) →
-    nesting_layer (map-FormulaTree FormulaTree ℕ nesting (map-FormulaTree ((f : FormulaTree) × IsNested f) FormulaTree (λ e. e.0) y)) + k ≤ 65
-nested_level k (FormulaTree-F.True token) h = omega (arith, h.0)
-nested_level k (FormulaTree-F.False token) h = omega (arith, h.0)
-nested_level k (FormulaTree-F.Atom a) h = omega (arith, h.0)
-nested_level k (FormulaTree-F.Not token f) h = let inner = f.1 (suc k) h.1 in omega (arith, inner)
-nested_level k (FormulaTree-F.Knows token x f) h = let inner = f.1 (suc k) h.1.1 in omega (arith, inner)
-nested_level k (FormulaTree-F.Common token g f) h = let inner = f.1 (suc k) (behind (spell.group g) (spell.formula_at f.0 (suc k)) h.1) in omega (arith, inner)
-nested_level k (FormulaTree-F.Forall token ps f) h = let inner = f.1 (suc k) (behind (spell.params ps) (fixed the.CloseParen ∷ spell.formula_at f.0 (suc k)) h.1.1).1 in omega (arith, inner)
-nested_level k (FormulaTree-F.Exists token ps f) h = let inner = f.1 (suc k) (behind (spell.params ps) (fixed the.CloseParen ∷ spell.formula_at f.0 (suc k)) h.1.1).1 in omega (arith, inner)
-nested_level k (FormulaTree-F.Equal token x y) h = omega (arith, h.0)
-nested_level k (FormulaTree-F.Paren token f) h = let inner = f.1 (suc k) (front (spell.formula_at f.0 (suc k)) (fixed the.CloseParen ∷ []) h.1) in omega (arith, inner)
-nested_level k (FormulaTree-F.And token fs) h =
-    let here : k ≤ 64 = h.0 in
-    let parts = between_nested the.And (suc k) fs (omega arith) (front (spell.between the.And (spell.parts_at (suc k) (map spell.formula_at (map (λ e. e.0) fs)))) (fixed the.CloseParen ∷ []) h.1) in
-    omega (arith, parts)
-nested_level k (FormulaTree-F.Or token fs) h =
-    let here : k ≤ 64 = h.0 in
-    let parts = between_nested the.Or (suc k) fs (omega arith) (front (spell.between the.Or (spell.parts_at (suc k) (map spell.formula_at (map (λ e. e.0) fs)))) (fixed the.CloseParen ∷ []) h.1) in
-    omega (arith, parts)
-
-nested_rolled : (x : FormulaTree-F FormulaTree) (y : FormulaTree-F ((f : FormulaTree) × IsNested f)) → map-FormulaTree ((f : FormulaTree) × IsNested f) FormulaTree (λ e. e.0) y ≡ x → IsNested (roll-FormulaTree x)
-nested_rolled x y e = subst (λ (x : FormulaTree-F FormulaTree). IsNested (roll-FormulaTree x)) e (λ k h.
-    let z = map-FormulaTree ((f : FormulaTree) × IsNested f) FormulaTree (λ e. e.0) y in
-    let n = nested_level k y (subst IsShallow (ap (λ u. u k) (fold-roll-FormulaTree (ℕ → List Mark) spell.production z)) h) in
-    omega (arith, nesting-roll z, n))
-
-pub nested : (f : FormulaTree) → IsNested f
-nested = ind-FormulaTree IsNested nested_rolled

@@ -4,7 +4,7 @@ use Rattle.std.specs.Prelude.{◌==◌}
 use Rattle.std.specs.List.{list_all}
 use Rattle.ep_logic.specs.declared.formula.Node.{Node}
 use Rattle.ep_logic.specs.declared.formula.Node.TheVariants as node
-use Rattle.ep_logic.specs.Nodes.{largest}
+use Rattle.ep_base.specs.Numbers.{largest}
 use Rattle.ep_binding.specs.Bindings.{binding_count}
 use Rattle.ep_tree.specs.declared.tree.Name.{Name}
 use Rattle.ep_tree.specs.declared.tree.AtomTree.{AtomTree}
@@ -19,7 +19,9 @@ use Rattle.ep_universe.specs.Objects.{Binding, object_at, agent_at, group_of, ca
 use Rattle.ep_universe.specs.Atoms.{atom_at}
 use Rattle.ep_universe.specs.Formulas.{ground_of, ground_layer, conjunction, disjunction, instances}
 use Rattle.ep_universe.specs.Counts.{ground_count, count_layer, repeated}
-use Rattle.ep_universe.specs.Sizes.{nesting, nesting_layer, is_whole, whole_layer, has_member}
+use Rattle.ep_tree.specs.Nesting.{nesting}
+use Rattle.ep_tree.proofs.CallerLemmas.{nesting-roll}
+use Rattle.ep_universe.specs.Sizes.{is_whole, whole_layer, has_member}
 
 map_map : {X Y Z : Type 0} (f : Y → Z) (g : X → Y) (xs : List X) → map f (map g xs) ≡ map (λ x. f (g x)) xs
 map_map f g [] = refl
@@ -33,10 +35,6 @@ ground-roll d x = fold-roll-FormulaTree (Binding → Node) (ground_layer d) x
 pub count-roll : (d : Declared) (x : FormulaTree-F FormulaTree) → ground_count d (roll-FormulaTree x) ≡ count_layer d (map-FormulaTree FormulaTree ℕ (ground_count d) x)
 unfolding ground_count
 count-roll d x = fold-roll-FormulaTree ℕ (count_layer d) x
-
-pub nesting-roll : (x : FormulaTree-F FormulaTree) → nesting (roll-FormulaTree x) ≡ nesting_layer (map-FormulaTree FormulaTree ℕ nesting x)
-unfolding nesting
-nesting-roll x = fold-roll-FormulaTree ℕ nesting_layer x
 
 pub whole-roll : (x : FormulaTree-F FormulaTree) → is_whole (roll-FormulaTree x) ≡ whole_layer (map-FormulaTree FormulaTree Bool is_whole x)
 unfolding is_whole

@@ -16,7 +16,7 @@ use Rattle.ep_types.specs.declared.scope.Declared.{Declared}
 use Rattle.ep_universe.proofs.LookupLemmas.{by_bool, declared-behind, absent}
 use Rattle.ep_universe.proofs.TypedLemmas.{both-none, located-none, row-none, types_fine, typed_by}
 
-same_text : (x y : Text) → is_text x y ≡ true → x ≡ y
+pub same_text : (x y : Text) → is_text x y ≡ true → x ≡ y
 same_text x y h = (bytes_decides x y).0 h
 
 -- ---- climbing
@@ -29,7 +29,7 @@ module _ (T : Typings) where
   at_parent : (a p c : Text) (m : ℕ) → declared a T ≡ Some p → climbs (suc m) T a c ≡ (is_text a c || climbs m T p c)
   at_parent a p c m e = ap (λ o. is_text a c || option_map_or (λ q. climbs m T q c) o false) e
 
-  climbs_here : (a c : Text) (m : ℕ) → is_text a c ≡ true → climbs m T a c ≡ true
+  pub climbs_here : (a c : Text) (m : ℕ) → is_text a c ≡ true → climbs m T a c ≡ true
   climbs_here a c zero h = h
   climbs_here a c (suc m) h = ap (λ b. b || option_map_or (λ q. climbs m T q c) (declared a T) false) h
 
@@ -37,7 +37,7 @@ module _ (T : Typings) where
   on_more c m f None k = k
   on_more c m f (Some q) k = f q k
 
-  climbs_more : (m : ℕ) (a c : Text) → climbs m T a c ≡ true → climbs (suc m) T a c ≡ true
+  pub climbs_more : (m : ℕ) (a c : Text) → climbs m T a c ≡ true → climbs (suc m) T a c ≡ true
   climbs_more zero a c h = climbs_here a c 1 h
   climbs_more (suc m) a c h =
       either (is_text a c) (option_map_or (λ q. climbs m T q c) (declared a T) false) (option_map_or (λ q. climbs (suc m) T q c) (declared a T) false)

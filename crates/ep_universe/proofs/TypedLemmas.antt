@@ -6,7 +6,8 @@ use Rattle.ep_tree.specs.declared.tree.ObjectTree.{ObjectTree}
 use Rattle.ep_tree.specs.declared.tree.FluentTree.{FluentTree}
 use Rattle.ep_tree.specs.declared.tree.TaskTree.{TaskTree}
 use Rattle.ep_types.specs.Atoms.{texts}
-use Rattle.ep_types.specs.Faults.{first_fault, first_row, located, or_else, table}
+use Rattle.std.specs.Option.{option_or}
+use Rattle.ep_types.specs.Faults.{first_fault, first_row, located, table}
 use Rattle.ep_types.specs.Names.{Text, Typings, names_of, values_of}
 use Rattle.ep_types.specs.Places.{Uses, both, at, NewName, ParamType}
 use Rattle.ep_types.specs.Tasks.{HasNoFault, declarations, start, with_type, after_types, with_objects, with_object, after_objects, with_fluent, after_fluents, kind_uses, fluent_uses, type_uses, object_uses, declaration_uses, rest_uses}
@@ -15,7 +16,7 @@ use Rattle.ep_types.specs.declared.scope.Declared.{Declared}
 
 -- ---- no fault in the parts
 
-else-none : (o p : Option (TypeFault × ℕ)) → or_else o p ≡ None → (o ≡ None) × (p ≡ None)
+else-none : (o p : Option (TypeFault × ℕ)) → option_or o p ≡ None → (o ≡ None) × (p ≡ None)
 else-none None p h = (refl, h)
 else-none (Some x) p h = cc
 

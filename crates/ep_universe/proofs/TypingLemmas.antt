@@ -11,7 +11,7 @@ use Rattle.ep_logic.specs.AgentSets.{is_nobody}
 use Rattle.ep_logic.specs.declared.formula.Node.{Node}
 use Rattle.ep_logic.specs.declared.formula.Node.TheVariants as node
 use Rattle.ep_theory.specs.Fits.{fits_in}
-use Rattle.ep_theory.specs.Numbers.{has_number}
+use Rattle.ep_logic.specs.Numbers.{has_number}
 use Rattle.ep_binding.specs.Bindings.{bindings}
 use Rattle.ep_tree.specs.declared.tree.Name.{Name}
 use Rattle.ep_tree.specs.declared.tree.AtomTree.{AtomTree}
@@ -23,11 +23,12 @@ use Rattle.ep_tree.specs.declared.tree.FormulaTree.TheOpen.{FormulaTree-F}
 use Rattle.ep_tree.specs.declared.tree.FormulaTree.TheFolds.{map-FormulaTree, fold-roll-FormulaTree, ind-FormulaTree}
 use Rattle.ep_types.specs.Faults.{first_fault, first_row, table, is_apart, has_other_count}
 use Rattle.ep_types.specs.Names.{Text, Typings, declared, is_text, is_below, names_of, values_of}
-use Rattle.ep_types.specs.Places.{Scope, Uses, with_params, type_of, or_object, at, each, UsedFluent, Argument, Agent, Group, Knowledge}
+use Rattle.std.specs.Option.{option_or}
+use Rattle.ep_types.specs.Places.{Scope, Uses, with_params, type_of, at, each, UsedFluent, Argument, Agent, Group, Knowledge}
 use Rattle.ep_types.specs.Uses.{param_uses, argument_uses, kinds_of, atom_uses, agent_uses, group_uses, knower_uses, knowers_uses, production, formula_uses}
 use Rattle.ep_types.specs.declared.scope.Declared.{Declared}
 use Rattle.ep_universe.specs.declared.atoms.GroundAtom.{GroundAtom}
-use Rattle.ep_universe.specs.Objects.{Binding, type_at, has_type, objects_of, agents_of, or_number, object_at, agent_at, group_of, candidates, bound}
+use Rattle.ep_universe.specs.Objects.{Binding, type_at, has_type, objects_of, agents_of, object_at, agent_at, group_of, candidates, bound}
 use Rattle.ep_universe.specs.Atoms.{atoms_at, atoms_from, atoms_of, is_same, fluent_at, ground_atom, atom_at}
 use Rattle.ep_universe.specs.Formulas.{ground_of, ground_layer, instances}
 use Rattle.ep_universe.specs.Typing.{StandsFor, Suits}
@@ -209,7 +210,7 @@ module _ (d : Declared) where
   module _ (trans : (x y z : Text) → is_below d.types x y ≡ true → is_below d.types y z ≡ true → is_below d.types x z ≡ true) (ps : Typings) (k : Bool) (b : Binding) (s : Suits (in_scope ps k) b) where
     stands : (x kind wanted : Text) → StandsFor d b x kind → is_below d.types kind wanted ≡ true → has_number (objects_of d wanted) (object_at d b x) ≡ true
     stands x kind wanted at h =
-        let is : object_at d b x ≡ at.object = ap (λ o. unwrap_or (or_number o (position (is_text x) (names_of d.objects))) 0) at.is in
+        let is : object_at d b x ≡ at.object = ap (λ o. unwrap_or (option_or o (position (is_text x) (names_of d.objects))) 0) at.is in
         ap (has_number (objects_of d wanted)) is ∙ in_numbers (has_type d wanted) (length d.objects) at.object at.within (trans (type_at d at.object) kind wanted at.has h)
 
     declared_object : (x kind wanted : Text) → declared x b ≡ None → declared x d.objects ≡ Some kind → is_below d.types kind wanted ≡ true → has_number (objects_of d wanted) (object_at d b x) ≡ true
@@ -217,7 +218,7 @@ module _ (d : Declared) where
         let place = at_place x kind [] d.objects e in
         let i = position_or_len (is_text x) (names_of d.objects) in
         let is : object_at d b x ≡ i =
-        ap (λ o. unwrap_or (or_number o (position (is_text x) (names_of d.objects))) 0) none ∙ ap (λ o. unwrap_or o 0) (found (is_text x) (names_of d.objects) place.there) in
+        ap (λ o. unwrap_or (option_or o (position (is_text x) (names_of d.objects))) 0) none ∙ ap (λ o. unwrap_or o 0) (found (is_text x) (names_of d.objects) place.there) in
         ap (has_number (objects_of d wanted)) is ∙ in_numbers (has_type d wanted) (length d.objects) i place.within (ap (λ z. is_below d.types z wanted) place.value ∙ h)
 
     -- an object of the type
@@ -225,9 +226,9 @@ module _ (d : Declared) where
     named x wanted typed = by (declared x ps) refl
       where
         by : (o : Option Text) → declared x ps ≡ o → has_number (objects_of d wanted) (object_at d b x) ≡ true
-        by None q = declared_object x typed.kind wanted (s.others x q) (sym (ap (λ o. or_object o (declared x d.objects)) q) ∙ typed.is) typed.below
+        by None q = declared_object x typed.kind wanted (s.others x q) (sym (ap (λ o. option_or o (declared x d.objects)) q) ∙ typed.is) typed.below
         by (Some kind) q =
-            let same : kind ≡ typed.kind = some_same kind typed.kind (sym (ap (λ o. or_object o (declared x d.objects)) q) ∙ typed.is) in
+            let same : kind ≡ typed.kind = some_same kind typed.kind (sym (ap (λ o. option_or o (declared x d.objects)) q) ∙ typed.is) in
             stands x typed.kind wanted (s.params x typed.kind (q ∙ ap Some same)) typed.below
 
     pub agent_in : (t : ℕ) (x : Text) → first_fault (at t (Agent x (in_scope ps k))) ≡ None → has_number (agents_of d) (object_at d b x) ≡ true

@@ -6,6 +6,7 @@ use Rattle.ep_tree.specs.declared.tree.FormulaTree.TheOpen.{FormulaTree-F}
 use Rattle.ep_tree.specs.declared.tree.FormulaTree.TheFolds.{fold-FormulaTree}
 use Rattle.ep_types.specs.declared.scope.Declared.{Declared}
 use Rattle.ep_universe.specs.Objects.{candidates}
+use Rattle.ep_universe.specs.declared.limits.TheConstants.{MOST_GROUND_NODES}
 
 -- the nodes of so many instances of n nodes: none is one constant, and one is itself
 abbrev pub repeated : ℕ → ℕ → ℕ
@@ -31,6 +32,6 @@ count_layer d (FormulaTree-F.Or token ns) = sum ns + 1
 unfoldable pub ground_count : Declared → FormulaTree → ℕ
 ground_count d = fold-FormulaTree ℕ (count_layer d)
 
--- a count, where each above 65,536 is told as 65,537
+-- a count, where each above the most is told as one more than the most
 abbrev pub capped : ℕ → ℕ
-capped n = min n 65537
+capped n = min n (MOST_GROUND_NODES + 1)

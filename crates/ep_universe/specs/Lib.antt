@@ -1,9 +1,10 @@
 pub mod Atoms
 pub mod Counts
 pub mod FirstToken
-pub mod FormulaFaults
 pub mod Formulas
-pub mod Limits
+pub mod Links
 pub mod Objects
+pub mod PrintedNames
 pub mod Sizes
 pub mod Typing
+pub mod Universe

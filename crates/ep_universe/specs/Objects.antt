@@ -1,7 +1,8 @@
 -- Objects and agents by number, in order of declaration, and what names stand for.
-use Rattle.std.specs.Prelude.{ℕ, Bool, ◌==◌, List, [], ◌∷◌, length, map, Option, Some, None, position, unwrap_or, slice_index_or, codes}
+use Rattle.std.specs.Prelude.{ℕ, Bool, ◌==◌, List, [], ◌∷◌, length, map, position, unwrap_or, slice_index_or, codes}
+use Rattle.std.specs.Option.{option_or}
 use Rattle.ep_logic.specs.AgentSets.{first_agents}
-use Rattle.ep_theory.specs.Numbers.{numbers_where, has_number}
+use Rattle.ep_logic.specs.Numbers.{numbers_where, has_number}
 use Rattle.ep_tree.specs.declared.tree.Name.{Name}
 use Rattle.ep_tree.specs.declared.tree.GroupTree.{GroupTree}
 use Rattle.ep_tree.specs.declared.tree.GroupTree.TheVariants.{All, Members}
@@ -28,13 +29,9 @@ agents_of d = objects_of d (codes "agent")
 abbrev pub Binding : Type 0
 Binding = List (Text × ℕ)
 
-abbrev pub or_number : Option ℕ → Option ℕ → Option ℕ
-or_number None later = later
-or_number (Some n) later = Some n
-
 -- the object for which a name stands: that of a parameter, or else itself
 abbrev pub object_at : Declared → Binding → Text → ℕ
-object_at d b x = unwrap_or (or_number (declared x b) (position (is_text x) (names_of d.objects))) 0
+object_at d b x = unwrap_or (option_or (declared x b) (position (is_text x) (names_of d.objects))) 0
 
 -- the number of an object among the agents
 abbrev pub agent_of : Declared → ℕ → ℕ

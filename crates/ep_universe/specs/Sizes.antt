@@ -1,9 +1,12 @@
 -- What keeps a ground form within the limits of a formula.
-use Rattle.std.specs.Prelude.{ℕ, ◌+◌, ◌≤◌, Bool, true, ◌&&◌, nat_le, List, length, IsTrue, All as Each}
+use Rattle.std.specs.Prelude.{ℕ, ◌<◌, ◌≤◌, Bool, true, ◌&&◌, nat_le, List, length, IsTrue, All as Each}
 use Rattle.std.specs.List.{list_all}
 use Rattle.ep_binding.specs.Bindings.{binding_count}
-use Rattle.ep_logic.specs.Nodes.{largest, node_count, depth_of}
+use Rattle.ep_logic.specs.Nodes.{node_count, depth_of}
+use Rattle.ep_logic.specs.declared.formula.TheConstants.{MOST_DEPTH, MOST_NODES}
 use Rattle.ep_logic.specs.declared.formula.Node.{Node}
+use Rattle.ep_tree.specs.Nesting.{nesting}
+use Rattle.ep_tree.specs.declared.limits.TheConstants.{MOST_NESTING}
 use Rattle.ep_tree.specs.declared.tree.GroupTree.{GroupTree}
 use Rattle.ep_tree.specs.declared.tree.GroupTree.TheVariants.{All, Members}
 use Rattle.ep_tree.specs.declared.tree.FormulaTree.{FormulaTree}
@@ -13,24 +16,7 @@ use Rattle.ep_tree.specs.declared.tree.ParamTree.{ParamTree}
 use Rattle.ep_types.specs.declared.scope.Declared.{Declared}
 use Rattle.ep_universe.specs.Counts.{ground_count, repeated}
 use Rattle.ep_universe.specs.Objects.{candidates}
-
-abbrev pub nesting_layer : FormulaTree-F ℕ → ℕ
-nesting_layer (FormulaTree-F.True token) = 1
-nesting_layer (FormulaTree-F.False token) = 1
-nesting_layer (FormulaTree-F.Atom a) = 1
-nesting_layer (FormulaTree-F.Not token n) = n + 1
-nesting_layer (FormulaTree-F.Knows token x n) = n + 1
-nesting_layer (FormulaTree-F.Common token g n) = n + 1
-nesting_layer (FormulaTree-F.Forall token ps n) = n + 1
-nesting_layer (FormulaTree-F.Exists token ps n) = n + 1
-nesting_layer (FormulaTree-F.Equal token x y) = 1
-nesting_layer (FormulaTree-F.Paren token n) = n + 1
-nesting_layer (FormulaTree-F.And token ns) = largest ns + 1
-nesting_layer (FormulaTree-F.Or token ns) = largest ns + 1
-
--- how many formulas stand one in another at most: a formula that has no other in it has nesting 1
-unfoldable pub nesting : FormulaTree → ℕ
-nesting = fold-FormulaTree ℕ nesting_layer
+use Rattle.ep_universe.specs.declared.limits.TheConstants.{MOST_GROUND_NODES}
 
 abbrev pub has_member : GroupTree → Bool
 has_member (All token) = true
@@ -57,8 +43,8 @@ is_whole = fold-FormulaTree Bool whole_layer
 -- what can be built of a formula, whatever the binding
 pub record IsBuildable (d : Declared) (f : FormulaTree) : Type 0 where
   pub whole : IsTrue (is_whole f)
-  pub nodes : ground_count d f ≤ 65536
-  pub nested : nesting f ≤ 64
+  pub nodes : ground_count d f ≤ MOST_GROUND_NODES
+  pub nested : nesting f ≤ MOST_NESTING
 
 abbrev pub AreBuildable : Declared → List FormulaTree → Type 0
 AreBuildable d fs = Each (IsBuildable d) fs
@@ -66,10 +52,10 @@ AreBuildable d fs = Each (IsBuildable d) fs
 -- the same of a formula at each binding of parameters
 pub record IsRepeatable (d : Declared) (ps : List ParamTree) (f : FormulaTree) : Type 0 where
   pub whole : IsTrue (is_whole f)
-  pub nodes : repeated (binding_count (candidates d ps)) (ground_count d f) ≤ 65536
-  pub nested : nesting f ≤ 63
+  pub nodes : repeated (binding_count (candidates d ps)) (ground_count d f) ≤ MOST_GROUND_NODES
+  pub nested : nesting f < MOST_NESTING
 
 -- a node within the limits of a formula
 pub record IsMakeable (n : Node) : Type 0 where
-  pub nodes : node_count n ≤ 131072
-  pub shallow : depth_of n ≤ 128
+  pub nodes : node_count n ≤ MOST_NODES
+  pub shallow : depth_of n ≤ MOST_DEPTH

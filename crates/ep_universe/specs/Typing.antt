@@ -21,6 +21,7 @@ use Rattle.ep_universe.specs.Atoms.{atoms_of, ground_atom, atom_at}
 use Rattle.ep_universe.specs.Formulas.{ground_of}
 use Rattle.ep_universe.specs.Counts.{ground_count}
 use Rattle.ep_universe.specs.Sizes.{IsBuildable}
+use Rattle.ep_universe.specs.declared.limits.TheConstants.{MOST_GROUND_NODES}
 
 -- a name stands for an object of a type
 pub record StandsFor (d : Declared) (b : Binding) (x kind : Text) : Type 0 where
@@ -60,4 +61,4 @@ BindingsSuit = (d : Declared) (params : List ParamTree) (objects : List ℕ) →
 -- a formula that is read and has no type fault can be built where its ground form is small
 abbrev pub FormulasBuild : Type 0
 FormulasBuild = (d : Declared) (s : Scope) (f : FormulaTree) → IsFormedFormula f → IsShallow (formulas.marks f) →
-    first_fault (formula_uses f s) ≡ None → ground_count d f ≤ 65536 → IsBuildable d f
+    first_fault (formula_uses f s) ≡ None → ground_count d f ≤ MOST_GROUND_NODES → IsBuildable d f

@@ -2,6 +2,8 @@
 
 ghost use Rattle.std.specs.Prelude.{◌≡◌, ◌<◌, ◌≤◌, ◌++◌, IfOk, IfSome, OnOk, length, map, position};
 ghost use Rattle.std.specs.List.{flat_map};
+ghost use Rattle.ep_binding.specs.declared.limits.TheConstants.{MOST_OBJECTS};
+ghost use Rattle.ep_lex.specs.declared.limits.TheConstants.{MOST_TOKENS};
 ghost use Rattle.ep_binding.specs.Bindings.{bindings};
 ghost use Rattle.ep_types.specs.Atoms.{texts};
 ghost use Rattle.ep_types.specs.Tasks.{declarations};
@@ -28,7 +30,7 @@ fn objects_of_each(
     typed: &Typed,
     kinds: &[Name],
 ) -> Result<List<List<u32>>, OutOfMemory>
-    requires { length (declarations typed.now).objects ≤ 64 }
+    requires { length (declarations typed.now).objects ≤ MOST_OBJECTS }
     ensures { IfOk result (λ lists. lists ≡ map (objects_of (declarations typed.now)) (texts kinds.now)) }
 {
     let mut lists = List::new(alloc);
@@ -40,8 +42,8 @@ fn objects_of_each(
 
 /// The exact number of ground atoms, before any is made.
 pub fn atom_count(alloc: Global, typed: &Typed) -> Result<u64, OutOfMemory>
-    requires objects { length (declarations typed.now).objects ≤ 64 }
-    requires fluents { length typed.now.fluents ≤ 262144 }
+    requires objects { length (declarations typed.now).objects ≤ MOST_OBJECTS }
+    requires fluents { length typed.now.fluents ≤ MOST_TOKENS }
     ensures { IfOk result (λ count. count ≡ length (spec.atoms_of (declarations typed.now))) }
 {
     let mut count = 0;
@@ -69,7 +71,7 @@ fn push_atoms(
 
 /// The ground atoms: the fluents in order of declaration, each at all bindings.
 pub fn atoms_of(alloc: Global, typed: &Typed) -> Result<List<GroundAtom>, OutOfMemory>
-    requires { length (declarations typed.now).objects ≤ 64 }
+    requires { length (declarations typed.now).objects ≤ MOST_OBJECTS }
     ensures { IfOk result (λ atoms. atoms ≡ spec.atoms_of (declarations typed.now)) }
 {
     let mut atoms = List::new(alloc);
@@ -87,7 +89,7 @@ fn objects_at(
     binding: &[Bound],
     names: &[Name],
 ) -> Result<List<u32>, OutOfMemory>
-    requires { length (declarations typed.now).objects ≤ 64 }
+    requires { length (declarations typed.now).objects ≤ MOST_OBJECTS }
     ensures { IfOk result (λ objects. objects ≡ map (λ x. object_at (declarations typed.now) binding.now x.text) names.now) }
 {
     let mut objects = List::new(alloc);
@@ -111,7 +113,7 @@ pub fn ground_atom(
     binding: &[Bound],
     atom: &AtomTree,
 ) -> Result<GroundAtom, OutOfMemory>
-    requires { length (declarations typed.now).objects ≤ 64 }
+    requires { length (declarations typed.now).objects ≤ MOST_OBJECTS }
     ensures { IfOk result (λ made. made ≡ spec.ground_atom (declarations typed.now) binding.now atom.now) }
 {
     let fluent = fluent_at(typed, atom.name.text.as_slice());

@@ -7,23 +7,29 @@ ghost use Rattle.ep_universe.specs.Counts.{capped, ground_count, repeated};
 ghost use Rattle.ep_universe.specs.Objects.{candidates, objects_of};
 ghost use Rattle.ep_universe.specs.FirstToken.{first_token};
 
+use crate::limits::MOST_GROUND_NODES;
+use crate::universe::Universe;
 use ep_tree::{FormulaTree, ParamTree};
 use ep_types::Typed;
 
-/// The most nodes of a ground formula.
-pub const MOST_NODES: u64 = 65_536;
-
-/// The number of nodes of the ground form, or None where it is above 65,536. It takes no memory.
-pub fn count_nodes(typed: &Typed, tree: &FormulaTree) -> Option<u32>
-    ensures value { MatchOption result (65536 < ground_count (declarations typed.now) tree.now) (λ nodes. nodes ≡ ground_count (declarations typed.now) tree.now) }
-    ensures small { IfSome result (λ nodes. nodes ≤ 65536) }
+/// The number of nodes of the ground form, or None where it is above the most. It takes no memory.
+pub fn count_nodes(universe: &Universe, tree: &FormulaTree) -> Option<u32>
+    ensures value { MatchOption result (MOST_GROUND_NODES < ground_count universe.now.names tree.now) (λ nodes. nodes ≡ ground_count universe.now.names tree.now) }
+    ensures small { IfSome result (λ nodes. nodes ≤ MOST_GROUND_NODES) }
 {
-    let nodes = count(typed, tree);
-    if nodes > MOST_NODES {
+    let nodes = count_all(universe, tree);
+    if nodes > MOST_GROUND_NODES {
         None
     } else {
         Some(nodes as u32)
     }
+}
+
+/// The nodes of the ground form, up to one more than the most.
+fn count_all(universe: &Universe, tree: &FormulaTree) -> u64
+    ensures { result ≡ capped (ground_count universe.now.names tree.now) }
+{
+    count(universe.typed(), tree)
 }
 
 /// The nodes of the ground form, up to one more than the most. A quantifier over no binding counts 1 however large its
@@ -70,13 +76,17 @@ fn count_parts(typed: &Typed, parts: &[FormulaTree]) -> u64
 fn cap(n: u64) -> u64
     ensures { result ≡ capped n }
 {
-    if n > MOST_NODES { MOST_NODES + 1 } else { n }
+    if n > MOST_GROUND_NODES {
+        MOST_GROUND_NODES + 1
+    } else {
+        n
+    }
 }
 
 /// The nodes of so many instances as one formula.
 fn repeat(times: u64, nodes: u64) -> u64
-    requires times { times ≤ 65537 }
-    requires nodes { nodes ≤ 65537 }
+    requires times { times ≤ MOST_GROUND_NODES + 1 }
+    requires nodes { nodes ≤ MOST_GROUND_NODES + 1 }
     ensures { result ≡ capped (repeated times nodes) }
 {
     match times {

@@ -1,26 +1,18 @@
 //! Ground forms of formulas.
 
-ghost use Rattle.std.specs.Prelude.{◌≡◌, ◌+◌, ◌<◌, ◌≤◌, ◌^◌, ◌==◌, [], ◌∷◌, false, length, map, if◌then◌else◌, IfErr, IfOk, MatchResult, IsTrue, None};
+ghost use Rattle.std.specs.Prelude.{◌≡◌, ◌+◌, ◌<◌, ◌≤◌, ◌^◌, ◌==◌, [], ◌∷◌, false, length, map, if◌then◌else◌, IfOk, MatchResult};
+ghost use Rattle.ep_logic.specs.declared.limits.TheConstants.{MOST_AGENTS};
 ghost use Rattle.ep_logic.specs.AgentSets.{is_nobody};
 ghost use Rattle.ep_logic.specs.declared.formula.Node.TheVariants.{Not, Knows, Common, And, Or, True, False};
-ghost use Rattle.ep_tree.specs.Formed.{IsFormedFormula};
-ghost use Rattle.ep_tree.specs.Grammar.{formulas};
-ghost use Rattle.ep_tree.specs.Marks.{IsShallow};
-ghost use Rattle.ep_theory.specs.Fits.{fits_in};
-ghost use Rattle.ep_universe.specs.Atoms.{atoms_of};
-ghost use Rattle.ep_universe.specs.FormulaFaults.{formula_refusal, TellsFormula};
 ghost use Rattle.ep_universe.specs.Formulas.{ground_of, conjunction, disjunction, instances};
-ghost use Rattle.ep_universe.specs.Objects.{agents_of, object_at};
+ghost use Rattle.ep_universe.specs.Objects.{object_at};
 ghost use Rattle.ep_universe.specs.Sizes.{IsBuildable, AreBuildable, IsMakeable, IsRepeatable};
 
-use crate::count::{count_nodes, first_token};
-use crate::fault::FormulaFault;
 use crate::objects::{Bound, wider};
 use crate::universe::Universe;
 use ep_binding::bindings;
 use ep_logic::{AgentId, Agents, Formula, FormulaError, List, OutOfMemory};
 use ep_tree::{FormulaTree, Name, ParamTree};
-use ep_types::check_formula;
 use std::alloc::Global;
 
 /// The ground form under a binding of the parameters in force.
@@ -31,8 +23,8 @@ pub fn ground_form(
     tree: &FormulaTree,
     binding: &[Bound],
 ) -> Result<Formula, OutOfMemory>
-    requires { IsBuildable universe.now tree.now }
-    ensures { IfOk result (λ f. f ≡ ground_of universe.now tree.now binding.now) }
+    requires { IsBuildable universe.now.names tree.now }
+    ensures { IfOk result (λ f. f ≡ ground_of universe.now.names tree.now binding.now) }
 {
     match tree {
         FormulaTree::True { .. } => Ok(Formula::truth(true)),
@@ -78,8 +70,8 @@ fn ground_parts(
     parts: &[FormulaTree],
     binding: &[Bound],
 ) -> Result<List<Formula>, OutOfMemory>
-    requires { AreBuildable universe.now parts.now }
-    ensures { IfOk result (λ fs. fs ≡ map (λ f. ground_of universe.now f binding.now) parts.now) }
+    requires { AreBuildable universe.now.names parts.now }
+    ensures { IfOk result (λ fs. fs ≡ map (λ f. ground_of universe.now.names f binding.now) parts.now) }
 {
     let mut forms = List::new(alloc);
     for part in parts {
@@ -97,8 +89,8 @@ fn ground_instances(
     inner: &FormulaTree,
     binding: &[Bound],
 ) -> Result<List<Formula>, OutOfMemory>
-    requires { IsRepeatable universe.now params.now inner.now }
-    ensures { IfOk result (λ fs. fs ≡ instances universe.now (ground_of universe.now inner.now) binding.now params.now) }
+    requires { IsRepeatable universe.now.names params.now inner.now }
+    ensures { IfOk result (λ fs. fs ≡ instances universe.now.names (ground_of universe.now.names inner.now) binding.now params.now) }
 {
     let mut forms = List::new(alloc);
     let candidates = universe.candidates(alloc, params)?;
@@ -111,7 +103,7 @@ fn ground_instances(
 
 /// Whether the names of an equality stand for one object.
 fn equality(universe: &Universe, binding: &[Bound], left: &Name, right: &Name) -> Formula
-    ensures { result ≡ (if object_at universe.now binding.now left.now.text == object_at universe.now binding.now right.now.text then True else False) }
+    ensures { result ≡ (if object_at universe.now.names binding.now left.now.text == object_at universe.now.names binding.now right.now.text then True else False) }
 {
     Formula::truth(universe.object_at(binding, left) == universe.object_at(binding, right))
 }
@@ -124,7 +116,7 @@ fn negation(alloc: Global, f: Formula) -> Result<Formula, OutOfMemory>
 }
 
 fn knowledge(alloc: Global, agent: AgentId, f: Formula) -> Result<Formula, OutOfMemory>
-    requires agent { agent.n < 8 }
+    requires agent { agent.n < MOST_AGENTS }
     requires shape { IsMakeable (Knows agent f) }
     ensures { IfOk result (λ g. g ≡ Knows agent f) }
 {
@@ -183,27 +175,5 @@ fn made(answer: Result<Formula, FormulaError>) -> Result<Formula, OutOfMemory>
         Ok(f) => Ok(f),
         Err(FormulaError::OutOfMemory) => Err(OutOfMemory {}),
         Err(_) => unreachable!(),
-    }
-}
-
-/// The ground form of a formula by itself, where no parameter is in force. The formula is one that the reader gives.
-pub fn ground_formula(
-    alloc: Global,
-    universe: &Universe,
-    tree: &FormulaTree,
-) -> Result<Formula, FormulaFault>
-    requires formed { IsFormedFormula tree.now }
-    requires shallow { IsShallow (formulas.marks tree.now) }
-    ensures form { IfOk result (λ f. f ≡ ground_of universe.now tree.now []) }
-    ensures fits { IfOk result (λ f. IsTrue (fits_in (length (agents_of universe.now)) (length (atoms_of universe.now)) f)) }
-    ensures allowed { IfOk result (λ f. formula_refusal universe.now tree.now ≡ None) }
-    ensures refused { IfErr result (TellsFormula universe.now tree.now) }
-{
-    check_formula(alloc, universe.typed(), tree)?;
-    match count_nodes(universe.typed(), tree) {
-        None => Err(FormulaFault::TooLarge {
-            token: first_token(tree),
-        }),
-        Some(_) => Ok(ground_form(alloc, universe, tree, &[])?),
     }
 }

@@ -3,12 +3,16 @@
 
 pub mod atoms;
 pub mod count;
-pub mod fault;
 pub mod formula;
+mod items;
 pub mod laws;
+pub mod limits;
+pub mod links;
+pub mod names;
 pub mod objects;
 pub mod universe;
+mod universe_error;
 
-pub use fault::FormulaFault;
-pub use formula::ground_formula;
+pub use limits::MOST_GROUND_NODES;
 pub use universe::Universe;
+pub use universe_error::UniverseError;

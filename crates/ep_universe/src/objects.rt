@@ -1,6 +1,8 @@
 //! Objects and agents by number, and what names stand for.
 
 ghost use Rattle.std.specs.Prelude.{◌≡◌, ◌<◌, ◌≤◌, ◌++◌, IfOk, length, map, slice_set, true};
+ghost use Rattle.ep_binding.specs.declared.limits.TheConstants.{MOST_OBJECTS};
+ghost use Rattle.ep_binding.specs.Laminar.{IsLaminar};
 ghost use Rattle.ep_types.specs.Names.{declared};
 ghost use Rattle.ep_types.specs.Tasks.{declarations};
 ghost use Rattle.ep_universe.specs.Objects as spec;
@@ -28,7 +30,7 @@ impl<'a> Model for Bound<'a> {
 
 /// The objects whose type is this one or below it, in order of declaration.
 pub fn objects_of(alloc: Global, typed: &Typed, kind: &[u8]) -> Result<List<u32>, OutOfMemory>
-    requires { length (declarations typed.now).objects ≤ 64 }
+    requires { length (declarations typed.now).objects ≤ MOST_OBJECTS }
     ensures { IfOk result (λ objects. objects ≡ spec.objects_of (declarations typed.now) kind.now) }
 {
     let mut objects = List::new(alloc);
@@ -46,9 +48,11 @@ pub fn candidates(
     typed: &Typed,
     params: &[ParamTree],
 ) -> Result<List<List<u32>>, OutOfMemory>
-    requires { length (declarations typed.now).objects ≤ 64 }
-    ensures { IfOk result (λ lists. lists ≡ spec.candidates (declarations typed.now) params.now) }
+    requires { length (declarations typed.now).objects ≤ MOST_OBJECTS }
+    ensures value { IfOk result (λ lists. lists ≡ spec.candidates (declarations typed.now) params.now) }
+    ensures laminar { IfOk result IsLaminar }
 {
+    typed.known();
     let mut lists = List::new(alloc);
     for param in params {
         lists.push(objects_of(alloc, typed, param.kind.text.as_slice())?)?;
@@ -70,7 +74,7 @@ fn bound_to(binding: &[Bound], name: &[u8]) -> Option<u32>
 
 /// The object for which a name stands, where it is the name of one.
 pub fn object_at(typed: &Typed, binding: &[Bound], name: &[u8]) -> u32
-    requires { length (declarations typed.now).objects ≤ 64 }
+    requires { length (declarations typed.now).objects ≤ MOST_OBJECTS }
     ensures { result ≡ spec.object_at (declarations typed.now) binding.now name.now }
 {
     match bound_to(binding, name) {

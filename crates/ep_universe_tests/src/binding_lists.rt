@@ -1,10 +1,13 @@
 //! Bindings of parameters to objects, and their numbers.
 
-ghost use Rattle.std.specs.Prelude.{◌≤◌, All, IfOk};
+ghost use Rattle.std.specs.Prelude.{◌≤◌, All, IfOk, length};
 ghost use Rattle.ep_binding.specs.Bindings.{IsObjects};
+ghost use Rattle.ep_binding.specs.declared.limits.TheConstants.{MOST_PARAMETERS};
 
 use ep_base::{List, OutOfMemory};
-use ep_binding::{binding_count, bindings, distinct_bindings, distinct_count, has_binding};
+use ep_binding::{
+    binding_count, bindings, distinct_bindings, distinct_count, has_binding, is_laminar,
+};
 use std::alloc::Global;
 use std::process::Abort;
 use std::test::Fail;
@@ -67,14 +70,15 @@ fn bindings_in_order(rt: HostRuntime) -> Result<(), Fail> {
     Ok(())
 }
 
-// The first objects, so many of them.
-fn objects(alloc: Global, count: u32) -> Result<List<u32>, OutOfMemory>
-    requires { count ≤ 64 }
+// So many objects from one on.
+fn objects(alloc: Global, first: u32, count: u32) -> Result<List<u32>, OutOfMemory>
+    requires first { first ≤ 64 }
+    requires count { count ≤ 64 }
     ensures { IfOk result IsObjects }
 {
     let mut objects = List::new(alloc);
-    for object in 0..count {
-        objects.push(object)?;
+    for place in 0..count {
+        objects.push(first + place)?;
     }
     Ok(objects)
 }
@@ -82,39 +86,58 @@ fn objects(alloc: Global, count: u32) -> Result<List<u32>, OutOfMemory>
 fn parameters(
     rt: &impl Abort,
     alloc: Global,
-    counts: &[u32],
+    sets: &[(u32, u32)],
 ) -> Result<List<List<u32>>, OutOfMemory>
     ensures { IfOk result (All IsObjects) }
 {
     let mut params = List::new(alloc);
-    for count in counts {
-        assert!(rt; *count <= 64);
-        params.push(objects(alloc, *count)?)?;
+    for (first, count) in sets {
+        assert!(rt; *first <= 64 && *count <= 64);
+        params.push(objects(alloc, *first, *count)?)?;
     }
     Ok(params)
 }
 
-// Numbers of objects, of all bindings, and of the distinct ones, as 3 * (4 - 1) * (5 - 2) where the lists are the first
-// objects.
+// Numbers of objects behind the first of each set, of all bindings, and of the distinct ones: as 3 * (4 - 1) * (5 - 2)
+// where the sets lie one in another, and 3 * 4 * (20 - 2) where two of them lie apart in a third.
+const COUNTS: [(&'static [(u32, u32)], u64, u64); 13] = [
+    (&[], 1, 1),
+    (&[(0, 0)], 0, 0),
+    (&[(0, 64)], 64, 64),
+    (&[(0, 32), (0, 32)], 1_024, 992),
+    (&[(0, 2), (0, 2), (0, 2)], 8, 0),
+    (&[(0, 3), (0, 5), (0, 4)], 60, 27),
+    (&[(0, 64), (0, 64), (0, 64), (0, 64), (0, 64), (0, 0)], 0, 0),
+    (
+        &[(0, 64), (0, 64), (0, 64), (0, 64), (0, 64), (0, 64)],
+        68_719_476_736,
+        53_981_544_960,
+    ),
+    (&[(0, 6), (0, 5), (0, 4), (0, 3), (0, 2), (0, 1)], 720, 1),
+    (&[(0, 3), (10, 4), (0, 20)], 240, 216),
+    (&[(0, 2), (2, 2), (0, 4), (8, 1)], 16, 8),
+    (&[(0, 2), (2, 2), (0, 4), (8, 1), (8, 1)], 16, 0),
+    (&[(4, 2), (0, 8), (4, 2)], 32, 12),
+];
+
+// The number of distinct bindings, where the sets are laminar.
+fn count_distinct(rt: &impl Abort, params: &[List<u32>]) -> u64
+    requires few { length params.now ≤ MOST_PARAMETERS }
+    requires objects { All IsObjects params.now }
+{
+    assert!(rt; is_laminar(params));
+    distinct_count(params)
+}
+
 #[test]
 fn exact_numbers_of_bindings(rt: HostRuntime) -> Result<(), Fail> {
-    let rows: [(&[u32], u64, u64); 9] = [
-        (&[], 1, 1),
-        (&[0], 0, 0),
-        (&[64], 64, 64),
-        (&[32, 32], 1_024, 992),
-        (&[2, 2, 2], 8, 0),
-        (&[3, 5, 4], 60, 27),
-        (&[64, 64, 64, 64, 64, 0], 0, 0),
-        (&[64, 64, 64, 64, 64, 64], 68_719_476_736, 53_981_544_960),
-        (&[6, 5, 4, 3, 2, 1], 720, 1),
-    ];
     let alloc = rt.alloc();
-    for (counts, all, distinct) in rows {
-        let params = parameters(&rt, alloc, counts)?;
+    for (sets, all, distinct) in COUNTS {
+        let params = parameters(&rt, alloc, sets)?;
         assert!(rt; params.as_slice().len() <= 6);
         assert_eq!(rt; binding_count(params.as_slice()), all);
-        assert_eq!(rt; distinct_count(alloc, params.as_slice())?, distinct);
+        assert_eq!(rt; count_distinct(&rt, params.as_slice()), distinct);
     }
+    assert!(rt; !is_laminar(parameters(&rt, alloc, &[(0, 2), (4, 1), (1, 2)])?.as_slice()));
     Ok(())
 }

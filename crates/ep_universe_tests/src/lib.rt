@@ -1,10 +1,8 @@
-//! Tests of bindings, printed names, universes and lawful initial states.
+//! Tests of bindings, printed names and universes.
 #![tactic(auto)]
 
 #[cfg(test)]
 mod binding_lists;
-#[cfg(test)]
-mod lawful_states;
 #[cfg(test)]
 mod name_tables;
 #[cfg(test)]

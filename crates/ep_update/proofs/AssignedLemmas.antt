@@ -6,14 +6,13 @@ use Rattle.std.proofs.lemmas.List.{take_more, length-set, get_or-set_same, get_o
 use Rattle.std.specs.List.{find}
 use Rattle.ep_logic.specs.declared.formula.Node.{Node}
 use Rattle.ep_logic.specs.declared.formula.Node.TheVariants.{True}
-use Rattle.ep_theory.specs.Numbers.{table}
+use Rattle.ep_logic.specs.Numbers.{table}
 use Rattle.ep_theory.specs.Kripke.{Kripke}
 use Rattle.ep_theory.specs.Events.{AreDistinct}
 use Rattle.ep_theory.specs.Product.{atom_by}
 use Rattle.ep_theory.specs.Tested.{is_true}
-use Rattle.ep_theory.proofs.Filters.{All-at}
-use Rattle.ep_theory.proofs.Lists.{test_itself}
-use Rattle.ep_theory.proofs.NumbersLemmas.{length-table, get_or-table}
+use Rattle.ep_theory.proofs.CallerLemmas.{All-at, test_itself}
+use Rattle.ep_logic.proofs.CallerLemmas.{length-table, get_or-table}
 use Rattle.ep_update.specs.Assigned.{atom_with}
 use Rattle.ep_update.proofs.NumbersWhere.{table_is}
 

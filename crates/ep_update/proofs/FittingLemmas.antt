@@ -8,7 +8,7 @@ use Rattle.ep_event.specs.Built.{set_of}
 use Rattle.ep_theory.specs.Kripke.{Kripke}
 use Rattle.ep_theory.specs.Events.{Event}
 use Rattle.ep_theory.specs.Fits.{Fits, SetFits, EventFits}
-use Rattle.ep_theory.proofs.Exists.{get_or-map_within}
+use Rattle.ep_theory.proofs.CallerLemmas.{get_or-map_within}
 use Rattle.ep_update.specs.Assigned.{AssignFits}
 use Rattle.ep_update.proofs.AssignedLemmas.{no_set}
 

@@ -12,9 +12,8 @@ use Rattle.ep_theory.specs.Kripke.{Kripke}
 use Rattle.ep_theory.specs.Fits.{SetFits, EventFits, ActionFits}
 use Rattle.ep_theory.specs.Events.{Event, EventModel, IsAction, event_at, no_event}
 use Rattle.ep_theory.specs.Tested.{is_true}
-use Rattle.ep_theory.proofs.Exists.{get_or-map_within}
-use Rattle.ep_theory.proofs.Filters.{All-at, All-map}
-use Rattle.ep_theory.proofs.NumbersLemmas.{length-table, get_or-table}
+use Rattle.ep_theory.proofs.CallerLemmas.{get_or-map_within, All-at, All-map}
+use Rattle.ep_logic.proofs.CallerLemmas.{length-table, get_or-table}
 use Rattle.ep_update.specs.Places.{label_of, labels, value_labels}
 use Rattle.ep_update.proofs.AssignedLemmas.{no_set}
 use Rattle.ep_update.proofs.FittingLemmas.{set_at, set_within}

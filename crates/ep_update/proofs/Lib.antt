@@ -6,3 +6,4 @@ pub mod AssignedLemmas
 pub mod RowLemmas
 pub mod FittingLemmas
 pub mod LabelLemmas
+pub mod CallerLemmas

@@ -2,8 +2,8 @@
 use Rattle.std.proofs.Common.{◌≡◌, ℕ, zero, suc, ◌+◌, ◌-◌, ◌<◌, ◌≤◌, Bool, true, false, cond, ◌&&◌, List, [], ◌∷◌, ◌++◌, map, length, get_or, leb, refl, sym, ◌∙◌, ap, subst, arith, append-nil, append_assoc, add-zero, add-suc, add-one, inl, inr}
 use Rattle.std.proofs.lemmas.Bool.{cases_lt, lt-leb, le-leb}
 use Rattle.std.proofs.lemmas.List.{length-append, get_or_append_left, ext_get_or, length-map, get_or-append_right, get_or-map, map-append}
-use Rattle.ep_theory.specs.Numbers.{numbers_where, pairs_within, table}
-use Rattle.ep_theory.proofs.NumbersLemmas.{length-table, get_or-table}
+use Rattle.ep_logic.specs.Numbers.{numbers_where, pairs_within, table}
+use Rattle.ep_logic.proofs.CallerLemmas.{length-table, get_or-table}
 
 -- tests that agree below n choose the same numbers
 pub numbers_where-same : (p q : ℕ → Bool) (n : ℕ) → ((i : ℕ) → i < n → p i ≡ q i) → numbers_where p n ≡ numbers_where q n

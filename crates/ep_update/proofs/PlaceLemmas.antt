@@ -3,13 +3,13 @@ use Rattle.std.proofs.Common.{◌≡◌, ℕ, zero, suc, ◌<◌, ◌≤◌, Boo
 use Rattle.std.proofs.lemmas.Bool.{cases_lt, lt-leb, le-leb}
 use Rattle.std.proofs.lemmas.List.{length-map}
 use Rattle.std.proofs.lemmas.List.Concat.{flat_map-append}
-use Rattle.ep_theory.specs.Numbers.{numbers_where, pairs_within, has_pair}
+use Rattle.ep_logic.specs.Numbers.{numbers_where, pairs_within, has_pair}
 use Rattle.ep_theory.specs.Kripke.{Kripke, IsState, links_of, successors}
 use Rattle.ep_theory.specs.Events.{Event, EventModel, event_at, event_links, no_event}
 use Rattle.ep_theory.specs.Product.{applies, places, place_at, links_both}
 use Rattle.ep_theory.specs.Tested.{is_true}
-use Rattle.ep_theory.proofs.Exists.{get_or-map_within}
-use Rattle.ep_theory.proofs.NumbersLemmas.{get_or-table, successors_are_numbers}
+use Rattle.ep_theory.proofs.CallerLemmas.{get_or-map_within, successors_are_numbers}
+use Rattle.ep_logic.proofs.CallerLemmas.{get_or-table}
 use Rattle.ep_update.specs.Places.{label_of, labels, is_labelled, labelled_pairs, first_place, is_linked_from, block, place_row}
 use Rattle.ep_update.proofs.NumbersWhere.{numbers_where-same, numbers_where-none, numbers_where-split, pairs_within-same, first-up, pair_at}
 

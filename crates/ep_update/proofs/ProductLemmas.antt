@@ -1,16 +1,15 @@
 -- The product from its rows.
 use Rattle.std.proofs.Common.{◌≡◌, ℕ, ◌<◌, ◌≤◌, ◌^◌, List, [], Bool, map, length, refl, sym, ◌∙◌, ap, sum_by}
 use Rattle.std.proofs.lemmas.List.{length-map}
-use Rattle.ep_theory.specs.Numbers.{numbers_where, pairs_where, table}
+use Rattle.ep_logic.specs.Numbers.{numbers_where, pairs_where, table}
 use Rattle.ep_theory.specs.Kripke.{Kripke}
 use Rattle.ep_theory.specs.Fits.{link_count}
 use Rattle.ep_theory.specs.Events.{EventModel}
 use Rattle.ep_theory.specs.Product.{places, place_at, truth_after, links_both, is_designated, product_of}
-use Rattle.ep_theory.proofs.Lists.{All-from_each}
-use Rattle.ep_theory.proofs.NumbersLemmas.{length-table, get_or-table, from_table}
-use Rattle.ep_kripke.specs.Rows.{row_pairs, all_pairs}
+use Rattle.ep_theory.proofs.CallerLemmas.{All-from_each, from_table, row_pairs-chosen, sum_by-pairs}
+use Rattle.ep_logic.proofs.CallerLemmas.{length-table, get_or-table}
+use Rattle.ep_theory.specs.Relations.{row_pairs, all_pairs}
 use Rattle.ep_kripke.specs.States.{IsBounded, HaveRows, state_of}
-use Rattle.ep_kripke.proofs.RowsLemmas.{row_pairs-chosen, sum_by-pairs}
 use Rattle.ep_update.specs.Places.{place_row, place_rows}
 use Rattle.ep_update.proofs.NumbersWhere.{map-table, table-same}
 

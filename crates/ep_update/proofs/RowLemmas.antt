@@ -4,14 +4,12 @@ use Rattle.std.proofs.lemmas.List.{get_or_default}
 use Rattle.std.specs.Cmp.{both_ways}
 use Rattle.std.specs.List.{AllByRecursion}
 use Rattle.ep_theory.specs.Rising.{IsIn}
-use Rattle.ep_theory.specs.Numbers.{numbers_where, has_number, has_pair, table}
+use Rattle.ep_logic.specs.Numbers.{numbers_where, has_number, has_pair, table}
 use Rattle.ep_theory.specs.Kripke.{Kripke, IsState, links_of, successors}
 use Rattle.ep_theory.specs.Events.{EventModel}
 use Rattle.ep_theory.specs.Product.{places, place_at, links_both}
-use Rattle.ep_theory.proofs.Lists.{All-from_each, from_successors}
-use Rattle.ep_theory.proofs.NumbersLemmas.{length-table, get_or-table, to_has_number, from_has_number, to_has_pair, from_has_pair}
-use Rattle.ep_theory.proofs.ProductLemmas.{is_place, from_places}
-use Rattle.ep_theory.proofs.Unique.{links_within}
+use Rattle.ep_theory.proofs.CallerLemmas.{All-from_each, from_successors, to_has_number, from_has_number, to_has_pair, from_has_pair, is_place, from_places, links_within}
+use Rattle.ep_logic.proofs.CallerLemmas.{length-table, get_or-table}
 use Rattle.ep_update.specs.Places.{block, blocks, place_row, first_place, is_linked_from, AreLabelled, ArePlaces, labels, labelled_pairs}
 use Rattle.ep_update.specs.declared.places.Places.{Places}
 use Rattle.ep_update.proofs.PlaceLemmas.{row_is, first_place-up, places-end, labelled_are, labelled_places}

@@ -1,7 +1,7 @@
 -- The places of a product by rows of truth values, and the links between them world by world.
 use Rattle.std.specs.Prelude.{◌≡◌, ℕ, suc, ◌+◌, Bool, false, ◌&&◌, nat_le, List, [], length, map, slice_index_or}
 use Rattle.ep_logic.specs.declared.formula.Node.{Node}
-use Rattle.ep_theory.specs.Numbers.{numbers_where, pairs_within, has_pair, table}
+use Rattle.ep_logic.specs.Numbers.{numbers_where, pairs_within, has_pair, table}
 use Rattle.ep_theory.specs.Kripke.{Kripke}
 use Rattle.ep_theory.specs.Tested.{is_true}
 use Rattle.ep_theory.specs.Events.{EventModel, event_links}

@@ -15,19 +15,23 @@ pub record IsWithin (size : Size) (S : Kripke) : Type 0 where
   pub links : link_count S ≤ size.links
 
 -- when each refusal comes, with the exact numbers of the product
-abbrev pub IsRefusal : Kripke → EventModel → Size → UpdateError → Type 0
-IsRefusal S A size (Inapplicable w) = stuck_world S A ≡ Some w
-IsRefusal S A size (TooManyWorlds n) = IsApplicable S A × (n ≡ (product_of S A).worlds) × (size.worlds < n)
-IsRefusal S A size (TooManyLinks n) = IsApplicable S A × ((product_of S A).worlds ≤ size.worlds) × (n ≡ link_count (product_of S A)) × (size.links < n)
-IsRefusal S A size OutOfMemory = Unit {0}
+abbrev pub IsFault : Kripke → EventModel → Size → UpdateError → Type 0
+IsFault S A size (Inapplicable w) = stuck_world S A ≡ Some w
+IsFault S A size (TooManyWorlds n) = IsApplicable S A × (n ≡ (product_of S A).worlds) × (size.worlds < n)
+IsFault S A size (TooManyLinks n) = IsApplicable S A × ((product_of S A).worlds ≤ size.worlds) × (n ≡ link_count (product_of S A)) × (size.links < n)
+IsFault S A size OutOfMemory = ⊥
 
 -- the result is right for each state that is bisimilar: the action is applicable there, and the products are bisimilar
 abbrev pub IsProductUpTo : Kripke → EventModel → Kripke → Type 0
 IsProductUpTo S A T = (R : Kripke) → IsState R → Bisimilar S R → IsApplicable R A × Bisimilar T (product_of R A)
 
--- where the action is refused as inapplicable, it is not applicable in any state that is bisimilar
+-- the action is not applicable in any state that is bisimilar
+abbrev pub AppliesNowhere : Kripke → EventModel → Type 0
+AppliesNowhere S A = (R : Kripke) → Bisimilar S R → ¬ IsApplicable R A
+
+-- an action that is refused as inapplicable applies nowhere
 abbrev pub IsRefusalUpTo : Kripke → EventModel → UpdateError → Type 0
-IsRefusalUpTo S A (Inapplicable w) = (R : Kripke) → Bisimilar S R → ¬ IsApplicable R A
+IsRefusalUpTo S A (Inapplicable w) = AppliesNowhere S A
 IsRefusalUpTo S A (TooManyWorlds n) = Unit {0}
 IsRefusalUpTo S A (TooManyLinks n) = Unit {0}
 IsRefusalUpTo S A OutOfMemory = Unit {0}

@@ -1,6 +1,6 @@
 ghost use Rattle.std.specs.Prelude.{◌≡◌, ℕ, ◌<◌, ◌≤◌, ◌++◌, length, IfOk, OnOk};
 ghost use Rattle.std.specs.List.{AllByRecursion};
-ghost use Rattle.ep_theory.specs.Numbers.{numbers_where, table};
+ghost use Rattle.ep_logic.specs.Numbers.{numbers_where, table};
 ghost use Rattle.ep_theory.specs.Kripke.{Kripke};
 ghost use Rattle.ep_theory.specs.Events.{EventModel};
 ghost use Rattle.ep_update.specs.Places.{blocks, is_linked_from, ArePlaces};

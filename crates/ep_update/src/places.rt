@@ -1,6 +1,8 @@
 ghost use Rattle.std.specs.Prelude.{◌≡◌, ℕ, ◌+◌, ◌*◌, ◌<◌, ◌≤◌, ◌++◌, length, vec_len, map, IfOk, OnOk};
 ghost use Rattle.std.specs.List.{AllByRecursion};
-ghost use Rattle.ep_theory.specs.Numbers.{numbers_where};
+ghost use Rattle.ep_logic.specs.declared.limits.TheConstants.{MOST_EVENTS};
+ghost use Rattle.ep_kripke.specs.declared.limits.TheConstants.{MOST_WORLDS};
+ghost use Rattle.ep_logic.specs.Numbers.{numbers_where};
 ghost use Rattle.ep_update.specs.Places.{is_labelled, AreLabelled};
 
 use ep_logic::{Bits, OutOfMemory};
@@ -15,11 +17,11 @@ pub(crate) struct Places {
 }
 
 pub(crate) fn find_places(alloc: Global, worlds: u32, rows: &[Bits]) -> Result<Places, OutOfMemory>
-    requires worlds { worlds ≤ 65536 }
-    requires events { length rows.now ≤ 16 }
+    requires worlds { worlds ≤ MOST_WORLDS }
+    requires events { length rows.now ≤ MOST_EVENTS }
     requires rows { AllByRecursion (λ row. length row ≡ worlds) rows.now }
     ensures places { IfOk result (AreLabelled worlds rows.now) }
-    ensures few { IfOk result (λ found. vec_len found.list ≤ 16 * worlds) }
+    ensures few { IfOk result (λ found. vec_len found.list ≤ MOST_EVENTS * worlds) }
 {
     let mut list = Vec::new(alloc);
     let mut firsts = Vec::new(alloc);
@@ -33,7 +35,7 @@ pub(crate) fn find_places(alloc: Global, worlds: u32, rows: &[Bits]) -> Result<P
 
 // Puts the places of one world at the end.
 fn add_places(list: &mut Vec<(u32, u32)>, w: u32, rows: &[Bits]) -> Result<(), OutOfMemory>
-    requires events { length rows.now ≤ 16 }
+    requires events { length rows.now ≤ MOST_EVENTS }
     requires rows { AllByRecursion (λ row. w < length row) rows.now }
     ensures places { OnOk result (list.new.items ≡ list.old.items ++ map (λ e. (w, e)) (numbers_where (is_labelled rows.now w) (length rows.now))) }
     ensures few { OnOk result (vec_len list.new ≤ vec_len list.old + length rows.now) }

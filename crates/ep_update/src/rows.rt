@@ -2,7 +2,8 @@
 
 ghost use Rattle.std.specs.Prelude.{◌≡◌, ◌*◌, ◌<◌, ◌≤◌, ◌^◌, [], length, flat_map, sum_by, slice_index_or, IfOk, OnOk};
 ghost use Rattle.std.specs.List.{AllByRecursion};
-ghost use Rattle.ep_theory.specs.Numbers.{numbers_where, table};
+ghost use Rattle.ep_kripke.specs.declared.limits.TheConstants.{MOST_WORLDS};
+ghost use Rattle.ep_logic.specs.Numbers.{numbers_where, table};
 ghost use Rattle.ep_theory.specs.Fits.{ActionFits};
 ghost use Rattle.ep_theory.specs.Product.{places, place_at, is_designated};
 ghost use Rattle.ep_update.specs.Places.{ArePlaces, place_rows};
@@ -47,11 +48,12 @@ fn rows_of(
     let blocks = all.as_slice();
     let mut rows = Rows::new(alloc);
     let mut row = Vec::new(alloc);
+    let mut targets = Vec::new(alloc);
     let list = found.list.as_slice();
     for at in list {
         let (w, e) = *at;
-        let targets = s.targets(AgentId { n: agent }, WorldId { n: w });
-        fill_row(&mut row, targets, &blocks[e as usize])?;
+        s.read_targets(AgentId { n: agent }, WorldId { n: w }, &mut targets)?;
+        fill_row(&mut row, &targets, &blocks[e as usize])?;
         rows.push(&row)?;
     }
     Ok(rows)
@@ -77,7 +79,7 @@ pub(crate) fn count_links(
     found: &Places,
 ) -> Result<u64, OutOfMemory>
     requires fits { ActionFits s.now a.now }
-    requires few { length (places s.now a.now) ≤ 65536 }
+    requires few { length (places s.now a.now) ≤ MOST_WORLDS }
     requires places { ArePlaces s.now a.now found.now }
     ensures { IfOk result (λ n. n ≡ sum_by (sum_by length) (table (place_rows s.now a.now) s.now.agents)) }
 {
@@ -98,7 +100,7 @@ fn count_of(
 ) -> Result<u64, OutOfMemory>
     requires fits { ActionFits s.now a.now }
     requires agent { agent < s.now.agents }
-    requires few { length (places s.now a.now) ≤ 65536 }
+    requires few { length (places s.now a.now) ≤ MOST_WORLDS }
     requires places { ArePlaces s.now a.now found.now }
     ensures count { IfOk result (λ n. n ≡ sum_by length (place_rows s.now a.now agent)) }
     ensures bound { IfOk result (λ n. n ≤ 65536 * 65536) }
@@ -106,11 +108,12 @@ fn count_of(
     let all = all_blocks(alloc, s, a, agent, found)?;
     let blocks = all.as_slice();
     let mut total = 0;
+    let mut targets = Vec::new(alloc);
     let list = found.list.as_slice();
     for at in list {
         let (w, e) = *at;
-        let targets = s.targets(AgentId { n: agent }, WorldId { n: w });
-        total += count_row(targets, &blocks[e as usize]);
+        s.read_targets(AgentId { n: agent }, WorldId { n: w }, &mut targets)?;
+        total += count_row(&targets, &blocks[e as usize]);
     }
     Ok(total)
 }
@@ -134,7 +137,7 @@ pub(crate) fn designated_of(
     a: &Action,
     list: &[(u32, u32)],
 ) -> Result<List<u32>, OutOfMemory>
-    requires few { length list.now ≤ 65536 }
+    requires few { length list.now ≤ MOST_WORLDS }
     requires list { list.now ≡ places s.now a.now }
     ensures { IfOk result (λ v. v ≡ numbers_where (λ i. is_designated s.now a.now (place_at s.now a.now i)) (length (places s.now a.now))) }
 {

@@ -1,7 +1,7 @@
 // The truth lists of a product.
 
 ghost use Rattle.std.specs.Prelude.{◌≡◌, ℕ, ◌<◌, length, map, IfOk};
-ghost use Rattle.ep_theory.specs.Numbers.{table};
+ghost use Rattle.ep_logic.specs.Numbers.{table};
 ghost use Rattle.ep_theory.specs.Kripke.{atom_at};
 ghost use Rattle.ep_theory.specs.Fits.{ActionFits};
 ghost use Rattle.ep_theory.specs.Product.{places, truth_after};

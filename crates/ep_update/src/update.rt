@@ -1,4 +1,6 @@
 ghost use Rattle.std.specs.Prelude.{◌≡◌, ◌+◌, ◌<◌, ◌≤◌, ◌^◌, IfOk, IfErr, OnOk};
+ghost use Rattle.ep_kripke.specs.declared.limits.TheConstants.{MOST_WORLDS};
+ghost use Rattle.ep_base.specs.Refusals.{OrWant};
 ghost use Rattle.ep_theory.specs.Events.{IsAction};
 ghost use Rattle.ep_theory.specs.Fits.{ActionFits, link_count};
 ghost use Rattle.ep_theory.specs.Product.{IsApplicable, product_of};
@@ -13,6 +15,7 @@ use ep_event::Action;
 use ep_kripke::State;
 use ep_logic::{OutOfMemory, Steps};
 use std::alloc::Global;
+use std::fmt;
 use std::sync::ledger::Ledger;
 
 /// How large a product may be.
@@ -32,6 +35,19 @@ pub enum UpdateError {
     OutOfMemory,
 }
 
+impl fmt::Display for UpdateError {
+    fn fmt<W: fmt::Write>(&self, f: &mut fmt::Formatter<W>) -> fmt::Result {
+        match self {
+            UpdateError::Inapplicable { world } => write!(f, "inapplicable at world {world}"),
+            UpdateError::TooManyWorlds { worlds } => write!(f, "too many worlds: {worlds}"),
+            UpdateError::TooManyLinks { links } => write!(f, "too many links: {links}"),
+            UpdateError::OutOfMemory => write!(f, "out of memory"),
+        }
+    }
+}
+
+impl std::error::Error for UpdateError {}
+
 impl From<OutOfMemory> for UpdateError {
     ghost use Rattle.std.specs.Prelude.{◌≡◌};
     ghost use Rattle.ep_update.specs.declared.update.UpdateError.TheVariants.{OutOfMemory};
@@ -43,7 +59,7 @@ impl From<OutOfMemory> for UpdateError {
     }
 }
 
-ghost use Rattle.ep_update.specs.Updates.{IsWithin, IsRefusal, IsProductUpTo, IsRefusalUpTo};
+ghost use Rattle.ep_update.specs.Updates.{IsWithin, IsFault, IsProductUpTo, IsRefusalUpTo};
 
 /// The product, where the action is applicable and the product is within the size. A refusal builds no product.
 /// The counter ticks once, whatever the answer.
@@ -55,12 +71,12 @@ pub fn product<L: Ledger>(
     steps: &mut Steps<L>,
 ) -> Result<State, UpdateError>
     requires fits { ActionFits s.now a.now }
-    requires worlds { size.worlds ≤ 65536 }
+    requires worlds { size.worlds ≤ MOST_WORLDS }
     requires links { size.links < 2 ^ 32 }
     ensures applicable { OnOk result (IsApplicable s.now a.now) }
     ensures product { IfOk result (λ t. t ≡ product_of s.now a.now) }
     ensures size { IfOk result (IsWithin size) }
-    ensures err { IfErr result (IsRefusal s.now a.now size) }
+    ensures err { IfErr result (OrWant UpdateError.OutOfMemory (IsFault s.now a.now size)) }
     ensures step { steps.new ≡ steps.old + 1 }
 
     // The same for each state that is bisimilar.
@@ -73,12 +89,12 @@ pub fn product<L: Ledger>(
 
 fn updated(alloc: Global, s: &State, a: &Action, size: Size) -> Result<State, UpdateError>
     requires fits { ActionFits s.now a.now }
-    requires worlds { size.worlds ≤ 65536 }
+    requires worlds { size.worlds ≤ MOST_WORLDS }
     requires links { size.links < 2 ^ 32 }
     ensures applicable { OnOk result (IsApplicable s.now a.now) }
     ensures product { IfOk result (λ t. t ≡ product_of s.now a.now) }
     ensures size { IfOk result (IsWithin size) }
-    ensures err { IfErr result (IsRefusal s.now a.now size) }
+    ensures err { IfErr result (OrWant UpdateError.OutOfMemory (IsFault s.now a.now size)) }
     ensures bisimilar { IfOk result (IsProductUpTo s.now a.now) }
     ensures bisimilar_err { IfErr result (IsRefusalUpTo s.now a.now) }
 {
@@ -100,11 +116,11 @@ fn check_size(
     found: &Places,
 ) -> Result<(), UpdateError>
     requires fits { ActionFits s.now a.now }
-    requires worlds { size.worlds ≤ 65536 }
+    requires worlds { size.worlds ≤ MOST_WORLDS }
     requires places { ArePlaces s.now a.now found.now }
     requires applicable { IsApplicable s.now a.now }
     ensures ok { OnOk result (IsWithin size (product_of s.now a.now)) }
-    ensures err { IfErr result (IsRefusal s.now a.now size) }
+    ensures err { IfErr result (OrWant UpdateError.OutOfMemory (IsFault s.now a.now size)) }
 {
     let worlds = found.list.len() as u64;
     if worlds > u64::from(size.worlds) {
@@ -123,7 +139,7 @@ fn built(alloc: Global, s: &State, a: &Action, found: &Places) -> Result<State, 
     requires action { IsAction a.now }
     requires places { ArePlaces s.now a.now found.now }
     requires applicable { IsApplicable s.now a.now }
-    requires worlds { (product_of s.now a.now).worlds ≤ 65536 }
+    requires worlds { (product_of s.now a.now).worlds ≤ MOST_WORLDS }
     requires links { link_count (product_of s.now a.now) < 2 ^ 32 }
     ensures { IfOk result (λ t. t ≡ product_of s.now a.now) }
 {
@@ -131,5 +147,6 @@ fn built(alloc: Global, s: &State, a: &Action, found: &Places) -> Result<State, 
     let truth = truth_rows(alloc, s, a, list)?;
     let relations = relations_of(alloc, s, a, found)?;
     let designated = designated_of(alloc, s, a, list)?;
-    Ok(State::from_rows(s.agents(), s.atoms(), truth, relations, designated))
+    let made = State::from_rows(alloc, s.agents(), s.atoms(), truth, relations, designated)?;
+    Ok(made)
 }

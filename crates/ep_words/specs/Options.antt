@@ -1,5 +1,7 @@
 -- The options of `plan`. This project's own.
-use Rattle.std.specs.Prelude.{◌≡◌, ℕ, zero, suc, ◌≤◌, true, false, List, [], ◌∷◌, None, Some, unwrap_or, codes, decimal}
+use Rattle.std.specs.Prelude.{◌≡◌, ℕ, zero, suc, ◌≤◌, List, [], ◌∷◌, None, Some, unwrap_or, codes, decimal}
+use Rattle.ep_bounds.specs.declared.bounds.TheConstants.{MOST_ACTIONS, MOST_STATES, MOST_WORLDS}
+use Rattle.ep_bounds.specs.declared.bounds.Mode.TheVariants as mode
 use Rattle.ep_words.specs.declared.options.PlanOption.{PlanOption}
 use Rattle.ep_words.specs.declared.options.PlanOption.TheVariants.{Depth, States, Worlds, Guide, First}
 use Rattle.ep_words.specs.declared.options.Options.{Options}
@@ -24,14 +26,14 @@ option_words First = codes "--first" ∷ codes "yes" ∷ []
 
 -- the value is within its limits
 abbrev pub IsWithin : PlanOption → Type 0
-IsWithin (Depth n) = n ≤ 1000
-IsWithin (States n) = (1 ≤ n) × (n ≤ 16384)
-IsWithin (Worlds n) = (1 ≤ n) × (n ≤ 256)
+IsWithin (Depth n) = n ≤ MOST_ACTIONS
+IsWithin (States n) = (1 ≤ n) × (n ≤ MOST_STATES)
+IsWithin (Worlds n) = (1 ≤ n) × (n ≤ MOST_WORLDS)
 IsWithin (Guide n) = n ≤ 2
 IsWithin First = Unit {0}
 
 abbrev pub no_options : Options
-no_options = record { depth = None; states = None; worlds = None; guide = None; first = false }
+no_options = record { depth = None; states = None; worlds = None; guide = None; mode = mode.Prove }
 
 -- the option is not among these
 abbrev pub IsNew : PlanOption → Options → Type 0
@@ -39,7 +41,7 @@ IsNew (Depth n) os = os.depth ≡ None
 IsNew (States n) os = os.states ≡ None
 IsNew (Worlds n) os = os.worlds ≡ None
 IsNew (Guide n) os = os.guide ≡ None
-IsNew First os = os.first ≡ false
+IsNew First os = os.mode ≡ mode.Prove
 
 -- these and the option
 abbrev pub and_option : Options → PlanOption → Options
@@ -47,7 +49,7 @@ and_option os (Depth n) = record os { depth = Some n }
 and_option os (States n) = record os { states = Some n }
 and_option os (Worlds n) = record os { worlds = Some n }
 and_option os (Guide n) = record os { guide = Some n }
-and_option os First = record os { first = true }
+and_option os First = record os { mode = mode.First }
 
 -- the words are those of further options in any order, each at most once and within its limits, with which there are all
 pub data AreOptions : List Word → Options → Options → Type 0 where
@@ -57,4 +59,4 @@ pub data AreOptions : List Word → Options → Options → Type 0 where
 
 -- the command with the values that are given, and else depth 8, 1,000 states, 256 worlds, the guide `depth`, and a shortest plan
 abbrev pub plan_of : Options → Command
-plan_of os = Plan (record { depth = unwrap_or os.depth 8; states = unwrap_or os.states 1000; worlds = unwrap_or os.worlds 256 }) (unwrap_or os.guide 0) os.first
+plan_of os = Plan (record { depth = unwrap_or os.depth 8; states = unwrap_or os.states 1000; worlds = unwrap_or os.worlds 256 }) (unwrap_or os.guide 0) os.mode

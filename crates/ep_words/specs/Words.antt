@@ -16,7 +16,7 @@ IsPlanWord word = (word ≡ codes "-") ⊎ IsFileWord word
 
 -- the first word of a command
 abbrev pub verb : Command → Word
-verb (Plan bounds guide first) = codes "plan"
+verb (Plan bounds guide mode) = codes "plan"
 verb Validate = codes "validate"
 verb Eval = codes "eval"
 verb State = codes "state"
@@ -54,7 +54,7 @@ IsTaskPlanAndFormula _ = ⊥
 
 -- the words behind the first one
 abbrev pub AreArguments : Command → List Word → Type 0
-AreArguments (Plan bounds guide first) words = IsPlanned words (Plan bounds guide first)
+AreArguments (Plan bounds guide mode) words = IsPlanned words (Plan bounds guide mode)
 AreArguments Validate words = IsTaskAndPlan words
 AreArguments Eval words = IsTaskPlanAndFormula words
 AreArguments State words = IsTaskAndPlan words

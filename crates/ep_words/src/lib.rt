@@ -6,5 +6,5 @@ mod number;
 mod options;
 mod words;
 
-pub use command::{Bounds, Command, Usage};
+pub use command::{Command, Usage};
 pub use words::{is_file_word, read_words};

@@ -6,8 +6,9 @@ ghost use Rattle.ep_words.specs.declared.options.PlanOption.TheVariants.{Guide};
 ghost use Rattle.ep_words.specs.declared.options.PlanOption as option;
 ghost use Rattle.ep_words.specs.declared.options.Options as given;
 
-use crate::command::{Bounds, Command};
+use crate::command::Command;
 use crate::number::number;
+use ep_bounds::{Bounds, MOST_ACTIONS, MOST_STATES, MOST_WORLDS, Mode};
 
 /// An option with its value.
 #[derive(Clone, Copy)]
@@ -26,7 +27,7 @@ pub struct Options {
     pub states: Option<u32>,
     pub worlds: Option<u32>,
     pub guide: Option<u32>,
-    pub first: bool,
+    pub mode: Mode,
 }
 
 fn guide(word: &str) -> Option<u32>
@@ -50,11 +51,11 @@ fn option(name: &str, value: &str) -> Option<PlanOption>
         (λ o. IsWithin o × (option_words o ≡ name.now ∷ value.now ∷ [])) }
 {
     if name == "--depth" {
-        number(value, 0, 1000).map(PlanOption::Depth)
+        number(value, 0, MOST_ACTIONS).map(PlanOption::Depth)
     } else if name == "--states" {
-        number(value, 1, 16384).map(PlanOption::States)
+        number(value, 1, MOST_STATES).map(PlanOption::States)
     } else if name == "--worlds" {
-        number(value, 1, 256).map(PlanOption::Worlds)
+        number(value, 1, MOST_WORLDS).map(PlanOption::Worlds)
     } else if name == "--guide" {
         guide(value).map(PlanOption::Guide)
     } else if name == "--first" && value == "yes" {
@@ -73,7 +74,7 @@ impl Options {
             states: None,
             worlds: None,
             guide: None,
-            first: false,
+            mode: Mode::Prove,
         }
     }
 
@@ -85,7 +86,10 @@ impl Options {
             PlanOption::States(_) => self.states.is_some(),
             PlanOption::Worlds(_) => self.worlds.is_some(),
             PlanOption::Guide(_) => self.guide.is_some(),
-            PlanOption::First => self.first,
+            PlanOption::First => match self.mode {
+                Mode::Prove => false,
+                Mode::First => true,
+            },
         }
     }
 
@@ -110,7 +114,7 @@ impl Options {
                 ..self
             },
             PlanOption::First => Options {
-                first: true,
+                mode: Mode::First,
                 ..self
             },
         }
@@ -127,7 +131,7 @@ impl Options {
                 worlds: self.worlds.unwrap_or(256),
             },
             guide: self.guide.unwrap_or(0),
-            first: self.first,
+            mode: self.mode,
         }
     }
 }

@@ -1,5 +1,5 @@
 use Rattle.std.proofs.Common.{◌≡◌, ◌++◌}
-use Rattle.ep_theory.specs.Numbers.{table}
+use Rattle.ep_logic.specs.Numbers.{table}
 use Rattle.ep_canon.specs.Bytes.{row_byte}
 use Rattle.ep_canon.proofs.bytes.put_row.Given as goal
 

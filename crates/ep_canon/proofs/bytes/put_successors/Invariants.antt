@@ -1,6 +1,6 @@
 use Rattle.std.proofs.Common.{◌≡◌, ◌++◌}
 use Rattle.std.specs.List.{flat_map}
-use Rattle.ep_theory.specs.Numbers.{table}
+use Rattle.ep_logic.specs.Numbers.{table}
 use Rattle.ep_theory.specs.Kripke.{links_of, successors}
 use Rattle.ep_canon.specs.Bytes.{row_bytes, members}
 use Rattle.ep_canon.proofs.bytes.put_successors.Given as goal

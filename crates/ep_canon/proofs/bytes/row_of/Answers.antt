@@ -1,6 +1,6 @@
 use Rattle.std.proofs.Common.{length, take, ap, ◌∙◌, arith}
-use Rattle.ep_theory.specs.Numbers.{has_number}
-use Rattle.ep_theory.proofs.NumbersLemmas.{length-table}
+use Rattle.ep_logic.specs.Numbers.{has_number}
+use Rattle.ep_logic.proofs.CallerLemmas.{length-table}
 use Rattle.ep_canon.proofs.WritingLemmas.{no_members, member_next}
 use Rattle.ep_canon.proofs.bytes.row_of.Goals as goal
 

@@ -1,6 +1,6 @@
 use Rattle.std.proofs.Common.{◌++◌, length, ap, ◌∙◌, arith}
-use Rattle.ep_theory.specs.Numbers.{has_number}
-use Rattle.ep_theory.proofs.NumbersLemmas.{length-table}
+use Rattle.ep_logic.specs.Numbers.{has_number}
+use Rattle.ep_logic.proofs.CallerLemmas.{length-table}
 use Rattle.std.specs.List.{flat_map}
 use Rattle.ep_canon.specs.Bytes.{row_bytes, members, successor_rows, bytes_of}
 use Rattle.ep_canon.proofs.bytes.written.Goals as goal

@@ -1,7 +1,7 @@
 use Rattle.std.proofs.Common.{arith}
-use Rattle.ep_theory.proofs.SameTruth.{same_at_all, same_at_some}
-use Rattle.ep_refine.proofs.KeptLemmas.{kept_few}
-use Rattle.ep_canon.proofs.QuotientLemmas.{keeps_designated, from_row, to_row, part_is_reached, contracts_part, only_one, own_contraction}
+use Rattle.ep_theory.proofs.CallerLemmas.{one_contraction, same_at_all, same_at_some}
+use Rattle.ep_refine.proofs.CallerLemmas.{kept_few}
+use Rattle.ep_canon.proofs.QuotientLemmas.{keeps_designated, from_row, to_row, part_is_reached, contracts_part, own_contraction}
 use Rattle.ep_canon.proofs.canon.contract.Goals as goal
 
 pub restrict-requires-clause-designated : goal.restrict-requires-clause-designated
@@ -26,10 +26,10 @@ returns-clause-contraction c = contracts_part c.args.s.now c.in_ok-part.part c.r
     c.in_ok-state.state c.in_ok-state.ensures.contraction
 
 pub returns-clause-only : goal.returns-clause-only
-returns-clause-only c = λ D. only_one c.args.s.now c.in_ok-state.state D c.in_ok-state.ensures.valid (returns-clause-contraction c)
+returns-clause-only c = λ D d. one_contraction c.args.s.now D c.in_ok-state.state d (returns-clause-contraction c)
 
 pub returns-clause-idempotent : goal.returns-clause-idempotent
-returns-clause-idempotent c = own_contraction c.args.s.now c.in_ok-state.state c.reachable.ensures.valid c.in_ok-state.ensures.valid (returns-clause-contraction c)
+returns-clause-idempotent c = own_contraction c.args.s.now c.in_ok-state.state c.reachable.ensures.valid (returns-clause-contraction c)
 
 pub returns-clause-all : goal.returns-clause-all
 returns-clause-all c = same_at_all c.args.s.now c.in_ok-state.state (returns-clause-contraction c).bisimilar

@@ -10,5 +10,5 @@ returns c =
     let right : c.as_slice-2.result.now ≡ bytes_of c.in_ok-second.second = c.as_slice-2.ensures ∙ c.in_ok-second_bytes.ensures.value in
     let equal = bytes_eq-Decides c.as_slice.result.now c.as_slice-2.result.now in
     let decide = bytes_of_contractions_decide c.args.s.now c.args.t.now c.in_ok-first.first c.in_ok-second.second
-    c.in_ok-first.ensures.valid c.in_ok-second.ensures.valid c.in_ok-first.ensures.contraction c.in_ok-second.ensures.contraction in
+    c.in_ok-first.ensures.contraction c.in_ok-second.ensures.contraction in
     (λ r. decide.0 (sym left ∙ equal.0 (sym c.eq.ensures ∙ r) ∙ right), λ b. c.eq.ensures ∙ equal.1 (left ∙ decide.1 b ∙ sym right))

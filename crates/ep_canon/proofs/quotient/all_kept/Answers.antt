@@ -1,6 +1,6 @@
 use Rattle.std.proofs.Common.{true, false, replicate, sym, ◌∙◌, arith}
 use Rattle.std.proofs.Math.ListN.{length-replicate}
-use Rattle.ep_theory.proofs.Unique.{same_places}
+use Rattle.ep_theory.proofs.CallerLemmas.{same_places}
 use Rattle.ep_canon.proofs.QuotientLemmas.{all_true}
 use Rattle.ep_canon.proofs.quotient.all_kept.Goals as goal
 

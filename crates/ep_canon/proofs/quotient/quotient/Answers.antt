@@ -3,7 +3,7 @@ use Rattle.ep_theory.specs.Kripke.{IsState}
 use Rattle.ep_theory.specs.Canonical.{Contracts}
 use Rattle.ep_theory.specs.Image.{IsImage}
 use Rattle.ep_theory.specs.Ranks.{RanksAt}
-use Rattle.ep_refine.specs.Marking.{is_marked}
+use Rattle.ep_logic.specs.Rows.{value_at}
 use Rattle.ep_refine.specs.Numbering.{AreNumbers}
 use Rattle.ep_canon.specs.Quotient.{StandFor}
 use Rattle.ep_canon.proofs.QuotientLemmas.{quotient_choice, quotient_contracts, both_ok}
@@ -23,7 +23,7 @@ image-requires-clause-choice c = quotient_choice c.args.s.now c.worlds.ensures.v
     (c.in_ok-keep.ensures ∙ ap (λ n. replicate n true) c.worlds.ensures.value)
 
 pub returns-clause-contraction : goal.returns-clause-contraction
-returns-clause-contraction c = both_ok c.image.result IsState (IsImage c.args.s.now (is_marked c.in_ok-keep.keep) (slice_index c.as_slice-2.result.now)) (Contracts c.args.s.now)
+returns-clause-contraction c = both_ok c.image.result IsState (IsImage c.args.s.now (value_at c.in_ok-keep.keep) (slice_index c.as_slice-2.result.now)) (Contracts c.args.s.now)
     (λ q v m. quotient_contracts c.args.s.now c.worlds.ensures.valid c.as_slice-2.result.now c.deref.result.now c.count.result c.in_ok-keep.keep
     (ap length c.as_slice-2.ensures ∙ c.requires.one_each)
     (subst (λ (l : List ℕ). RanksAt c.args.s.now c.args.s.now.worlds (slice_index l)) (sym c.as_slice-2.ensures) c.requires.ordered)

@@ -1,5 +1,5 @@
 use Rattle.std.proofs.Common.{◌≡◌}
-use Rattle.ep_theory.specs.Numbers.{numbers_where}
+use Rattle.ep_logic.specs.Numbers.{numbers_where}
 use Rattle.ep_canon.specs.Reading.{bit_from}
 use Rattle.ep_canon.proofs.reading.numbers.Given as goal
 

@@ -50,5 +50,5 @@ returns-clause-valid c =
     let v = c.in_ok-designated.designated in
     let told : v.items ≡ told_designated bytes s = c.in_ok-designated.ensures ∙ ap (λ at. told_numbers bytes at s.worlds) c.designated_start.ensures.value in
     let some = not_empty v.items (told_designated bytes s) v.len v.ok.0 c.if-is_empty.ensures told in
-    subst IsState (sym (c.from_rows.ensures ∙ (λ i. state_of s.agents s.atoms (c.in_ok-truth.ensures i) (c.in_ok-relations.ensures i) ((c.from_vec-designated.ensures ∙ told) i))))
+    subst IsState (sym (c.in_ok-state.ensures ∙ (λ i. state_of s.agents s.atoms (c.in_ok-truth.ensures i) (c.in_ok-relations.ensures i) ((c.from_vec-designated.ensures ∙ told) i))))
     (told_is_state bytes s c.requires.small.some_world some)

@@ -1,5 +1,5 @@
 use Rattle.std.proofs.Common.{◌≡◌, ◌+◌, ◌*◌}
-use Rattle.ep_theory.specs.Numbers.{table}
+use Rattle.ep_logic.specs.Numbers.{table}
 use Rattle.ep_canon.specs.Reading.{told_rows, links_begin, agent_size}
 use Rattle.ep_canon.proofs.reading.relations.Given as goal
 

@@ -1,5 +1,5 @@
 use Rattle.std.proofs.Common.{◌≡◌, length, take}
-use Rattle.ep_theory.specs.Numbers.{table}
+use Rattle.ep_logic.specs.Numbers.{table}
 use Rattle.ep_canon.specs.Reading.{bit_from}
 use Rattle.ep_canon.proofs.reading.row.Given as goal
 

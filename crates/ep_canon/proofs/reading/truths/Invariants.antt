@@ -1,5 +1,5 @@
 use Rattle.std.proofs.Common.{◌≡◌, ◌+◌, ◌*◌}
-use Rattle.ep_theory.specs.Numbers.{table}
+use Rattle.ep_logic.specs.Numbers.{table}
 use Rattle.ep_canon.specs.Bytes.{row_size}
 use Rattle.ep_canon.specs.Reading.{told_row}
 use Rattle.ep_canon.proofs.reading.truths.Given as goal

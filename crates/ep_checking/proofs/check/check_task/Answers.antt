@@ -1,20 +1,19 @@
 -- Where the command ends.
 use Rattle.std.proofs.lemmas.Result.{err_from_is_err_and}
 use Rattle.ep_checking.specs.Checking.{Checks}
-use Rattle.ep_reading.proofs.Lift.{stops_at_task, ends_with}
-use Rattle.ep_reading.proofs.Steps.{ground_formed, ground_shallow}
+use Rattle.ep_reading.proofs.CallerLemmas.{stops_at_task, ends_with, ground_formed, ground_shallow}
 use Rattle.ep_checking.proofs.CheckLemmas.{checks_is_behind}
 use Rattle.ep_checking.proofs.check.check_task.Goals as goal
 
 pub checked-requires-clause-formed : goal.checked-requires-clause-formed
 checked-requires-clause-formed g c =
     let t = c.in_ok-task.ensures.task.is_task in
-    ground_formed t.tree c.in_ok-task.task t.is_ground.whole t.is_tree.reads.formed
+    ground_formed t.tree c.in_ok-task.task t.is_ground.whole t.is_tree.text.reads.formed
 
 pub checked-requires-clause-shallow : goal.checked-requires-clause-shallow
 checked-requires-clause-shallow g c =
     let t = c.in_ok-task.ensures.task.is_task in
-    ground_shallow t.tree c.in_ok-task.task t.is_ground.whole t.is_tree.reads.shallow
+    ground_shallow t.tree c.in_ok-task.task t.is_ground.whole t.is_tree.text.reads.shallow
 
 pub returns-in_err-task-clause-answer : goal.returns-in_err-task-clause-answer
 returns-in_err-task-clause-answer g c =

@@ -8,7 +8,7 @@ pub returns-in-Ok-serve-clause-answer : goal.returns-in-Ok-serve-clause-answer
 returns-in-Ok-serve-clause-answer g c = IsAnswer-command _ _ c.in-Ok.command _ _ _ _ c.in-Ok.ensures.command c.in-Ok.ensures.only c.in-Ok-serve.ensures.answer
 
 pub returns-in-Ok-serve-clause-asked : goal.returns-in-Ok-serve-clause-asked
-returns-in-Ok-serve-clause-asked g c b guide first are some needs = c.in-Ok-serve.ensures.asked b guide first (sym (c.in-Ok.ensures.only (Plan b guide first) are)) some needs
+returns-in-Ok-serve-clause-asked g c b guide mode are some needs = c.in-Ok-serve.ensures.asked b guide mode (sym (c.in-Ok.ensures.only (Plan b guide mode) are)) some needs
 
 pub returns-in-Err-serve-clause-answer : goal.returns-in-Err-serve-clause-answer
 returns-in-Err-serve-clause-answer g c =
@@ -18,4 +18,4 @@ returns-in-Err-serve-clause-answer g c =
 pub returns-in-Err-serve-clause-asked : goal.returns-in-Err-serve-clause-asked
 returns-in-Err-serve-clause-asked g c =
     if_told _ c.into_answer.result c.in-Err-serve.stop c.into_answer.ensures.ok
-    (λ answer is b guide first are some needs. let asked = rw is at c.in-Err-serve.ensures.asked in asked b guide first (sym (c.in-Ok.ensures.only (Plan b guide first) are)) some needs)
+    (λ answer is b guide mode are some needs. let asked = rw is at c.in-Err-serve.ensures.asked in asked b guide mode (sym (c.in-Ok.ensures.only (Plan b guide mode) are)) some needs)

@@ -1,24 +1,23 @@
 -- What a command answers for its files.
 use Rattle.std.proofs.Common.{map, string_bytes, subst, sym, ◌∙◌}
 use Rattle.ep_words.specs.Words.{IsCommand}
-use Rattle.ep_cli.proofs.CommandLemmas.{serves_validate, serves_eval, serves_state, serves_contract, serves_same, serves_check_command, serves_trial}
+use Rattle.ep_cli.proofs.CommandLemmas.{serves_validate, serves_eval, serves_state, serves_contract, serves_same, serves_check_command, serves_trial, serves_plan}
 use Rattle.ep_cli.proofs.GuideLemmas.{asked_of}
-use Rattle.ep_cli.proofs.CommandLemmas.{serves_plan}
 use Rattle.ep_cli.proofs.WordLemmas.{plan_within}
 use Rattle.ep_cli.proofs.top.serve.Goals as goal
 
 pub guided_plan-requires : goal.guided_plan-requires
 guided_plan-requires g c =
     let words = map string_bytes c.args.words.now in
-    plan_within words c.in-Plan.bounds c.in-Plan.guide c.in-Plan.first (subst (IsCommand words) c.in-Plan.is c.requires)
+    plan_within words c.in-Plan.bounds c.in-Plan.guide c.in-Plan.mode (subst (IsCommand words) c.in-Plan.is c.requires)
 
 pub returns-in-Plan-clause-answer : goal.returns-in-Plan-clause-answer
 returns-in-Plan-clause-answer g c =
-    serves_plan (map string_bytes c.args.words.now) _ c.in-Plan.bounds c.in-Plan.guide c.in-Plan.first c.word-file.result.now _ _ c.guided_plan.result c.args.command c.in-Plan.is c.word-file.ensures c.guided_plan.ensures.answer
+    serves_plan (map string_bytes c.args.words.now) _ c.in-Plan.bounds c.in-Plan.guide c.in-Plan.mode c.word-file.result.now _ _ c.guided_plan.result c.args.command c.in-Plan.is c.word-file.ensures c.guided_plan.ensures.answer
 
 pub returns-in-Plan-clause-asked : goal.returns-in-Plan-clause-asked
-returns-in-Plan-clause-asked g c b guide first is some needs =
-    asked_of _ _ _ c.in-Plan.bounds b c.in-Plan.guide guide c.in-Plan.first first _ (sym c.in-Plan.is ∙ is) c.guided_plan.ensures.asked some needs
+returns-in-Plan-clause-asked g c b guide mode is some needs =
+    asked_of _ _ _ c.in-Plan.bounds b c.in-Plan.guide guide c.in-Plan.mode mode _ (sym c.in-Plan.is ∙ is) c.guided_plan.ensures.asked some needs
 
 pub returns-in-Validate-clause-answer : goal.returns-in-Validate-clause-answer
 returns-in-Validate-clause-answer g c =

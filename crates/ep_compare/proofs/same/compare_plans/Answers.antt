@@ -2,8 +2,7 @@
 use Rattle.std.proofs.Common.{inl, inr}
 use Rattle.std.proofs.lemmas.Result.{err_from_is_err_and}
 use Rattle.ep_compare.specs.Comparing.{TwoPlans}
-use Rattle.ep_reading.proofs.Behind.{behind_task}
-use Rattle.ep_reading.proofs.Lift.{stops_at_task}
+use Rattle.ep_reading.proofs.CallerLemmas.{behind_task, stops_at_task}
 use Rattle.ep_compare.proofs.same.compare_plans.Goals as goal
 
 pub returns-in_err-task-clause-answer : goal.returns-in_err-task-clause-answer

@@ -5,7 +5,7 @@ use Rattle.ep_answer.specs.declared.cause.Subject.TheVariants.{FirstPlan, Second
 use Rattle.ep_answer.specs.declared.run_stop.Whose.TheVariants.{First, Second}
 use Rattle.ep_reading.specs.PlanFile.{PlanFile, Ran}
 use Rattle.ep_compare.specs.Comparing.{Compares}
-use Rattle.ep_reading.proofs.Behind.{behind_plan, stops_at_plan}
+use Rattle.ep_reading.proofs.CallerLemmas.{behind_plan, stops_at_plan}
 use Rattle.ep_compare.proofs.CompareLemmas.{behind_run, first_stops}
 use Rattle.ep_compare.proofs.same.with_both.Goals as goal
 

@@ -6,9 +6,8 @@ use Rattle.ep_answer.specs.declared.run_stop.Whose.TheVariants.{Second}
 use Rattle.ep_reading.specs.PlanFile.{Ran}
 use Rattle.ep_compare.specs.Comparing.{Compares}
 use Rattle.ep_reading.specs.Steps.{nothing_behind}
-use Rattle.ep_reading.proofs.Behind.{behind_plan, stops_at_plan, stops_map, tells_is_served}
+use Rattle.ep_reading.proofs.CallerLemmas.{behind_plan, stops_at_plan, stops_map, tells_is_served, Ran-behind, Ran-weaker}
 use Rattle.ep_compare.proofs.CompareLemmas.{second_is_behind}
-use Rattle.ep_reading.proofs.PlanFileLemmas.{Ran-behind, Ran-weaker}
 use Rattle.ep_compare.proofs.same.with_second.Goals as goal
 
 pub returns-in_err-plan-clause-answer : goal.returns-in_err-plan-clause-answer

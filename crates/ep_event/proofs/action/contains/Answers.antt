@@ -1,5 +1,5 @@
 use Rattle.std.proofs.Common.{sym, ◌∙◌}
-use Rattle.ep_theory.proofs.NumbersLemmas.{to_has_number, from_has_number}
+use Rattle.ep_theory.proofs.CallerLemmas.{to_has_number, from_has_number}
 use Rattle.ep_event.proofs.action.contains.Goals as goal
 
 pub returns : goal.returns

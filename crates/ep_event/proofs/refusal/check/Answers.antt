@@ -2,6 +2,8 @@
 use Rattle.std.proofs.Common.{◌≡◌, ℕ, ◌≤◌, nat_lt, false, length, refl, arith}
 use Rattle.std.proofs.lemmas.Bool.Decides.{nat_tests}
 use Rattle.std.proofs.lemmas.Result.{err_from_is_err_and}
+use Rattle.ep_base.proofs.CallerLemmas.{told_none, told_some}
+use Rattle.ep_event.specs.Refusals.{atom_twice}
 use Rattle.ep_event.proofs.refusal.check.Goals as goal
 
 few : (n : ℕ) → n ≤ 16 → nat_lt 16 n ≡ false
@@ -50,7 +52,7 @@ returns-in_err-check_assignments c =
       ← c.in_default.ensures,
       ← c.in_default-first_event.ensures,
       ← c.in_default-first_designated.ensures,
-      c.in_err-check_assignments.ensures,
+      told_some (atom_twice c.as_slice-events.result.now) c.in_err-check_assignments.field-0.0 c.in_err-check_assignments.ensures,
     ) refl
 
 pub returns-then-is_empty-2 : goal.returns-then-is_empty-2
@@ -64,7 +66,7 @@ returns-then-is_empty-2 c =
       ← c.in_default.ensures,
       ← c.in_default-first_event.ensures,
       ← c.in_default-first_designated.ensures,
-      c.in_ok-check_assignments.ensures,
+      told_none (atom_twice c.as_slice-events.result.now) tt c.in_ok-check_assignments.ensures,
       ← c.if-is_empty-2.ensures,
     ) refl
 
@@ -79,6 +81,6 @@ returns c =
       ← c.in_default.ensures,
       ← c.in_default-first_event.ensures,
       ← c.in_default-first_designated.ensures,
-      c.in_ok-check_assignments.ensures,
+      told_none (atom_twice c.as_slice-events.result.now) tt c.in_ok-check_assignments.ensures,
       ← c.if-is_empty-2.ensures,
     ) refl

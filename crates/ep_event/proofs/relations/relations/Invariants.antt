@@ -1,6 +1,6 @@
 use Rattle.std.proofs.Common.{◌≡◌}
 use Rattle.ep_event.specs.Relations.{linked_rows}
-use Rattle.ep_theory.specs.Numbers.{table}
+use Rattle.ep_logic.specs.Numbers.{table}
 use Rattle.ep_event.proofs.relations.relations.Given as goal
 
 abbrev pub invariant-loop-agent : goal.invariant-loop-agent

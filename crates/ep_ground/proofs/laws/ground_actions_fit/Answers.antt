@@ -1,6 +1,6 @@
 use Rattle.std.proofs.Common.{refl}
 use Rattle.ep_types.specs.Tasks.{declarations}
-use Rattle.ep_ground.specs.Grounding.{initial_of}
+use Rattle.ep_initial.specs.Initial.{initial_of}
 use Rattle.ep_ground.proofs.FitLemmas.{all_fit}
 use Rattle.ep_ground.proofs.TaskLemmas.{initial_agents, initial_atoms}
 use Rattle.ep_ground.proofs.laws.ground_actions_fit.Goals as goal

@@ -1,7 +1,7 @@
 use Rattle.std.proofs.Common.{◌≡◌, ◌++◌, map, take}
 use Rattle.std.specs.List.{flat_map}
 use Rattle.ep_ground.specs.StateText as spec
-use Rattle.ep_ground.specs.StateText.{line}
+use Rattle.ep_base.specs.Texts.{line}
 use Rattle.ep_ground.proofs.state_text.push_atom_lines.Given as goal
 
 abbrev pub invariant-loop-atom : goal.invariant-loop-atom

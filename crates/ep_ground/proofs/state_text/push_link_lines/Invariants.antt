@@ -1,8 +1,8 @@
 use Rattle.std.proofs.Common.{◌≡◌, ◌++◌}
 use Rattle.std.specs.List.{flat_map}
-use Rattle.ep_theory.specs.Numbers.{table}
+use Rattle.ep_logic.specs.Numbers.{table}
 use Rattle.ep_ground.specs.StateText as spec
-use Rattle.ep_ground.specs.StateText.{line}
+use Rattle.ep_base.specs.Texts.{line}
 use Rattle.ep_ground.proofs.state_text.push_link_lines.Given as goal
 
 abbrev pub invariant-loop-agent : goal.invariant-loop-agent

@@ -1,11 +1,10 @@
-use Rattle.std.proofs.Common.{◌≡◌, ◌+◌, Err, inl, length, drop, sym, ap, ◌∙◌, subst, arith}
+use Rattle.std.proofs.Common.{◌≡◌, ◌+◌, Ok, Err, inl, length, drop, sym, ap, ◌∙◌, subst, arith}
 use Rattle.ep_lex.specs.declared.lex.LexError.TheVariants.{Stray}
 use Rattle.ep_lex.specs.Pieces.{IsStray}
-use Rattle.ep_lex.specs.Tokens.{AreTokens}
-use Rattle.ep_lex.proofs.TokenLaws.{tokens-unique}
+use Rattle.ep_lex.proofs.TokenLaws.{tokens-unique, lexed-unique}
 use Rattle.ep_lex.proofs.Faults.{stray-unique, stray-no_tokens}
 use Rattle.ep_lex.proofs.Splits.{IsFront}
-use Rattle.ep_lex.proofs.Progress.{front_at, piece_within, stray_at, stray_within, IsReadTo-blank, IsReadTo-comment, IsReadTo-spelling, IsReadTo-along, kept_all, kept_few, too_many}
+use Rattle.ep_lex.proofs.Progress.{front_at, piece_within, stray_at, stray_within, IsReadTo-blank, IsReadTo-comment, IsReadTo-spelling, IsReadTo-along, kept_all, kept_few, lexed, too_many}
 use Rattle.ep_lex.proofs.lex.tokens.Goals as goal
 use Rattle.ep_lex.proofs.lex.tokens.Goals.{in-Blank, in-Comment, in-Spelling+in_ok-keep-in-Spelling}
 
@@ -26,9 +25,9 @@ returns-in-Err-clause-stray c = λ at e.
     subst (IsStray c.args.bytes.now) same s
 
 pub returns-in-Err-clause-tokens_are_told : goal.returns-in-Err-clause-tokens_are_told
-returns-in-Err-clause-tokens_are_told c = λ h.
+returns-in-Err-clause-tokens_are_told c = λ found h.
     let s = stray_at c.args.bytes.now c.loop-at.at c.loop-at.line c.loop-at.count c.loop-at.kept c.loop-at.invariant c.loop-at-test.true c.in-Err.before (sym c.in-Err.is ∙ c.front_piece.ensures) in
-    absurd (stray-no_tokens c.args.bytes.now (c.loop-at.at + c.in-Err.before) h.0 s h.1)
+    absurd (stray-no_tokens c.args.bytes.now (c.loop-at.at + c.in-Err.before) found.tokens s h.tokens)
 
 pub returns-in-Err-clause-stray_is_told : goal.returns-in-Err-clause-stray_is_told
 returns-in-Err-clause-stray_is_told c = λ at t.
@@ -78,9 +77,9 @@ returns-then-count-gt-MOST_TOKENS-clause-too_many c = λ e.
     too_many c.args.bytes.now c.loop-at.at c.loop-at.line c.loop-at.count c.loop-at.kept c.loop-at.invariant c.loop-at-test.false c.if-count-gt-MOST_TOKENS.true
 
 pub returns-then-count-gt-MOST_TOKENS-clause-tokens_are_told : goal.returns-then-count-gt-MOST_TOKENS-clause-tokens_are_told
-returns-then-count-gt-MOST_TOKENS-clause-tokens_are_told c = λ h.
+returns-then-count-gt-MOST_TOKENS-clause-tokens_are_told c = λ found h.
     let m = too_many c.args.bytes.now c.loop-at.at c.loop-at.line c.loop-at.count c.loop-at.kept c.loop-at.invariant c.loop-at-test.false c.if-count-gt-MOST_TOKENS.true in
-    absurd (omega (arith, h.2, m.2, ap length (tokens-unique c.args.bytes.now h.0 m.0 h.1 m.1)))
+    absurd (omega (arith, h.few, m.2, ap length (tokens-unique c.args.bytes.now found.tokens m.0 h.tokens m.1)))
 
 pub returns-then-count-gt-MOST_TOKENS-clause-stray_is_told : goal.returns-then-count-gt-MOST_TOKENS-clause-stray_is_told
 returns-then-count-gt-MOST_TOKENS-clause-stray_is_told c = λ at s.
@@ -92,8 +91,14 @@ from_parts-requires c = kept_few c.args.bytes.now c.loop-at.at c.loop-at.line c.
 
 pub returns-clause-tokens : goal.returns-clause-tokens
 returns-clause-tokens c =
-    subst (AreTokens c.args.bytes.now) (sym c.from_parts.ensures.tokens)
-    (kept_all c.args.bytes.now c.loop-at.at c.loop-at.line c.loop-at.count c.loop-at.kept c.loop-at.invariant c.loop-at-test.false c.if-count-gt-MOST_TOKENS.false)
+    lexed c.args.bytes.now c.loop-at.at c.loop-at.line c.loop-at.count c.loop-at.kept c.loop-at.invariant c.loop-at-test.false c.if-count-gt-MOST_TOKENS.false
+    c.from_parts.result c.from_parts.ensures.tokens c.from_parts.ensures.line
+
+pub returns-clause-tokens_are_told : goal.returns-clause-tokens_are_told
+returns-clause-tokens_are_told c = λ found h.
+    let own = lexed c.args.bytes.now c.loop-at.at c.loop-at.line c.loop-at.count c.loop-at.kept c.loop-at.invariant c.loop-at-test.false c.if-count-gt-MOST_TOKENS.false
+    c.from_parts.result c.from_parts.ensures.tokens c.from_parts.ensures.line in
+    inl (ap Ok (lexed-unique c.args.bytes.now c.from_parts.result found own h))
 
 pub returns-clause-stray_is_told : goal.returns-clause-stray_is_told
 returns-clause-stray_is_told c = λ at s.

@@ -1,5 +1,6 @@
 use Rattle.std.proofs.Common.{◌≡◌, ◌++◌, map, take}
-use Rattle.ep_plan_text.specs.PlanText.{action_name, lines}
+use Rattle.ep_plan_text.specs.PlanText.{action_name}
+use Rattle.ep_base.specs.Texts.{lines}
 use Rattle.ep_plan_text.proofs.print.action_lines.Given as goal
 
 abbrev pub invariant-loop-action : goal.invariant-loop-action

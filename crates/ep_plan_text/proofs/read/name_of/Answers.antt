@@ -2,7 +2,7 @@ use Rattle.std.proofs.Common.{◌≡◌, ◌<◌, ◌++◌, List, ℕ, length, m
 use Rattle.std.proofs.lemmas.Bool.{eqb-true, eqb-false}
 use Rattle.std.proofs.lemmas.List.{take_all, length-map}
 use Rattle.ep_name.specs.Names.{printed, mark_before}
-use Rattle.ep_name.proofs.PrintLemmas.{opened, opened-none, opened-some}
+use Rattle.ep_name.proofs.CallerLemmas.{opened, opened-none, opened-some}
 use Rattle.ep_tree.specs.declared.tree.Name.{Name}
 use Rattle.ep_plan_text.proofs.NameLemmas.{opened-name}
 use Rattle.ep_plan_text.proofs.read.name_of.Goals as goal

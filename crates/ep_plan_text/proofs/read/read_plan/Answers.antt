@@ -26,7 +26,7 @@ pub judged-requires-clause-few : goal.judged-requires-clause-few
 judged-requires-clause-few c =
     let file = c.in_ok-file.file in
     let among = calls_among (spellings c.args.bytes.now file.tokens.tokens) file.tree c.in_ok-file.ensures.file.reads in
-    omega (arith, among.few, length-map file.tokens.tokens (spelling c.args.bytes.now), c.in_ok-file.ensures.file.has.few)
+    omega (arith, among.few, length-map file.tokens.tokens (spelling c.args.bytes.now), c.in_ok-file.ensures.file.lexed.few)
 
 pub returns-clause-plan_is_told : goal.returns-clause-plan_is_told
 returns-clause-plan_is_told c =
@@ -35,8 +35,8 @@ returns-clause-plan_is_told c =
     let bytes = c.args.bytes.now in
     let r = c.judged.result in
     told_plan g bytes r (judged_plan g bytes file.tokens file.tree r c.in_ok-file.ensures.file c.judged.ensures.plan)
-    (judged_fault g bytes file.tokens file.tree r c.in_ok-file.ensures.file c.in_ok-file.ensures.end_line c.judged.ensures.fault)
-    (alone_there g bytes file.tokens.tokens file.tree r c.in_ok-file.ensures.file c.judged.ensures.only)
+    (judged_fault g bytes file.tokens file.tree r c.in_ok-file.ensures.file c.judged.ensures.fault)
+    (alone_there g bytes file.tokens file.tree r c.in_ok-file.ensures.file c.judged.ensures.only)
 
 pub returns-clause-fault_is_told : goal.returns-clause-fault_is_told
 returns-clause-fault_is_told c =
@@ -45,18 +45,18 @@ returns-clause-fault_is_told c =
     let bytes = c.args.bytes.now in
     let r = c.judged.result in
     told_fault g bytes r (judged_plan g bytes file.tokens file.tree r c.in_ok-file.ensures.file c.judged.ensures.plan)
-    (judged_fault g bytes file.tokens file.tree r c.in_ok-file.ensures.file c.in_ok-file.ensures.end_line c.judged.ensures.fault)
+    (judged_fault g bytes file.tokens file.tree r c.in_ok-file.ensures.file c.judged.ensures.fault)
 
 pub returns-clause-few : goal.returns-clause-few
 returns-clause-few c =
     let file = c.in_ok-file.file in
     let among = calls_among (spellings c.args.bytes.now file.tokens.tokens) file.tree c.in_ok-file.ensures.file.reads in
     (judged_all c.args.task.now file.tree 262144 c.judged.result
-    (omega (arith, among.few, length-map file.tokens.tokens (spelling c.args.bytes.now), c.in_ok-file.ensures.file.has.few)) c.judged.ensures.plan).0
+    (omega (arith, among.few, length-map file.tokens.tokens (spelling c.args.bytes.now), c.in_ok-file.ensures.file.lexed.few)) c.judged.ensures.plan).0
 
 pub returns-clause-of_task : goal.returns-clause-of_task
 returns-clause-of_task c =
     let file = c.in_ok-file.file in
     let among = calls_among (spellings c.args.bytes.now file.tokens.tokens) file.tree c.in_ok-file.ensures.file.reads in
     (judged_all c.args.task.now file.tree 262144 c.judged.result
-    (omega (arith, among.few, length-map file.tokens.tokens (spelling c.args.bytes.now), c.in_ok-file.ensures.file.has.few)) c.judged.ensures.plan).1
+    (omega (arith, among.few, length-map file.tokens.tokens (spelling c.args.bytes.now), c.in_ok-file.ensures.file.lexed.few)) c.judged.ensures.plan).1

@@ -11,7 +11,7 @@ returns-then-place-len-clause-asked g c some needs = absurd (no_guide_needs_none
 
 pub returns-clause-answer : goal.returns-clause-answer
 returns-clause-answer g c =
-    serves_guided _ c.args.place (λ files. TaskFile files c.args.file.now (Plans c.args.bounds c.args.first)) _ _ _ c.plan.result (omega (arith, c.if-place-len.false, c.len.ensures)) c.plan.ensures.answer
+    serves_guided _ c.args.place (λ files. TaskFile files c.args.file.now (Plans c.args.bounds c.args.mode)) _ _ _ c.plan.result (omega (arith, c.if-place-len.false, c.len.ensures)) c.plan.ensures.answer
 
 pub returns-clause-asked : goal.returns-clause-asked
 returns-clause-asked g c some needs =

@@ -2,7 +2,7 @@
 use Rattle.std.proofs.Common.{subst, arith}
 use Rattle.ep_search.specs.Allowed.{Allowed}
 use Rattle.ep_search.specs.declared.answer.Answer.{Answer as Found}
-use Rattle.ep_search.specs.declared.answer.Mode.TheVariants as mode
+use Rattle.ep_bounds.specs.declared.bounds.Mode.TheVariants as mode
 use Rattle.ep_planning.proofs.trial.end.Goals as goal
 
 pub verdict-requires-clause-length : goal.verdict-requires-clause-length

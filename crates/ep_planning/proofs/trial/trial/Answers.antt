@@ -5,10 +5,8 @@ use Rattle.ep_answer.specs.declared.answer.Answer.TheVariants.{Tried}
 use Rattle.ep_planning.specs.Trials.{Tries}
 use Rattle.ep_reading.specs.Served.{TaskRead, answers}
 use Rattle.ep_reading.specs.Steps.{nothing_behind}
-use Rattle.ep_reading.proofs.Behind.{stops_map}
-use Rattle.ep_planning.proofs.TrialLemmas.{tries_by}
-use Rattle.ep_reading.proofs.Steps.{TaskRead-behind, TaskRead-weaker}
-use Rattle.ep_planning.proofs.TrialLemmas.{trial_is_short}
+use Rattle.ep_reading.proofs.CallerLemmas.{stops_map, TaskRead-behind, TaskRead-weaker}
+use Rattle.ep_planning.proofs.TrialLemmas.{tries_by, trial_is_short}
 use Rattle.ep_planning.proofs.trial.trial.Goals as goal
 
 pub read_task-requires : goal.read_task-requires

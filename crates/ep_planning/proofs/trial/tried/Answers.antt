@@ -2,7 +2,7 @@
 use Rattle.std.proofs.Common.{refl, subst, ◌∙◌, ap}
 use Rattle.ep_theory.specs.PlanningTask.{PlanningTask}
 use Rattle.ep_search.specs.Allowed.{Allowed}
-use Rattle.ep_search.specs.declared.answer.Mode.TheVariants as mode
+use Rattle.ep_bounds.specs.declared.bounds.Mode.TheVariants as mode
 use Rattle.ep_theory.specs.Kripke.{Kripke}
 use Rattle.ep_planning.proofs.PlanLemmas.{allowed_has_actions}
 use Rattle.ep_planning.proofs.trial.tried.Goals as goal
@@ -14,7 +14,7 @@ end-requires g c =
     record {
       depth = c.requires;
       allowed = allowed;
-      actions = allowed_has_actions c.args.task.now c.args.children 1000 256 mode.Prove found c.actions-actions.ensures.named.actions allowed;
+      actions = allowed_has_actions c.args.task.now c.args.children 1000 256 mode.Prove found c.known.ensures.actions allowed;
     }
 
 pub returns : goal.returns

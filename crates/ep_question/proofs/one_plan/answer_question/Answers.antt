@@ -4,8 +4,7 @@ use Rattle.std.proofs.lemmas.Result.{err_from_is_err_and}
 use Rattle.ep_answer.specs.declared.cause.Subject.TheVariants.{Plan}
 use Rattle.ep_reading.specs.PlanFile.{PlanFile}
 use Rattle.ep_question.specs.Questions.{Asks}
-use Rattle.ep_reading.proofs.Behind.{behind_task}
-use Rattle.ep_reading.proofs.Lift.{stops_at_task}
+use Rattle.ep_reading.proofs.CallerLemmas.{behind_task, stops_at_task}
 use Rattle.ep_question.proofs.one_plan.answer_question.Goals as goal
 
 pub returns-in_err-task-clause-answer : goal.returns-in_err-task-clause-answer

@@ -3,8 +3,7 @@ use Rattle.std.proofs.lemmas.Result.{err_from_is_err_and}
 use Rattle.ep_answer.specs.declared.run_stop.Whose.TheVariants.{Only}
 use Rattle.ep_question.specs.Questions.{ShowsContraction}
 use Rattle.ep_reading.specs.Steps.{nothing_behind}
-use Rattle.ep_reading.proofs.Behind.{stops_map}
-use Rattle.ep_reading.proofs.PlanFileLemmas.{Ran-behind, Ran-weaker}
+use Rattle.ep_reading.proofs.CallerLemmas.{stops_map, Ran-behind, Ran-weaker}
 use Rattle.ep_question.proofs.one_plan.contracts.Goals as goal
 
 pub returns-in_err-state : goal.returns-in_err-state

@@ -5,9 +5,7 @@ use Rattle.ep_reading.specs.PlanFile.{Ran}
 use Rattle.ep_question.specs.Questions.{Evaluates}
 use Rattle.ep_reading.specs.Served.{answers}
 use Rattle.ep_reading.specs.Steps.{nothing_behind}
-use Rattle.ep_reading.proofs.Behind.{stops_map}
-use Rattle.ep_reading.proofs.FormulaLemmas.{FormulaWord-behind, FormulaWord-weaker}
-use Rattle.ep_reading.proofs.PlanFileLemmas.{Ran-behind, Ran-weaker}
+use Rattle.ep_reading.proofs.CallerLemmas.{stops_map, FormulaWord-behind, FormulaWord-weaker, Ran-behind, Ran-weaker}
 use Rattle.ep_question.proofs.EvaluationLemmas.{fits_what_is_left}
 use Rattle.ep_question.proofs.one_plan.evals.Goals as goal
 

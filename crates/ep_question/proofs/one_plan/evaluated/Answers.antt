@@ -1,6 +1,6 @@
 -- How often the formula is true at a designated world.
 use Rattle.std.proofs.Common.{◌<◌, All, sym, subst}
-use Rattle.ep_truth.proofs.LabelLemmas.{designated_within}
+use Rattle.ep_truth.proofs.CallerLemmas.{designated_within}
 use Rattle.ep_question.proofs.EvaluationLemmas.{evaluates_by}
 use Rattle.ep_question.proofs.one_plan.evaluated.Goals as goal
 

@@ -3,7 +3,7 @@ use Rattle.std.proofs.lemmas.Result.{err_from_is_err_and}
 use Rattle.ep_answer.specs.declared.cause.Subject.TheVariants.{Plan}
 use Rattle.ep_question.specs.Questions.{Asks}
 use Rattle.ep_question.proofs.QuestionLemmas.{asks_is_behind}
-use Rattle.ep_reading.proofs.Behind.{behind_plan, stops_at_plan, tells_is_served}
+use Rattle.ep_reading.proofs.CallerLemmas.{behind_plan, stops_at_plan, tells_is_served}
 use Rattle.ep_question.proofs.one_plan.of_task.Goals as goal
 
 pub returns-in_err-plan-clause-answer : goal.returns-in_err-plan-clause-answer

@@ -1,5 +1,5 @@
 use Rattle.std.proofs.Common.{◌≡◌, ◌≤◌, ◌+◌, drop, count_by}
-use Rattle.ep_truth.specs.Labels.{value_at}
+use Rattle.ep_logic.specs.Rows.{value_at}
 use Rattle.ep_question.proofs.one_plan.true_places.Given as goal
 
 abbrev pub invariant-loop-place : goal.invariant-loop-place

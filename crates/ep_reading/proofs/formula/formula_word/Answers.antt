@@ -6,12 +6,12 @@ use Rattle.ep_reading.specs.Steps.{IsFormulaOf, StopsBy, nothing_behind}
 use Rattle.ep_reading.proofs.FormulaLemmas.{FormulaWord-long, FormulaWord-short}
 use Rattle.ep_reading.proofs.formula.formula_word.Goals as goal
 
-pub returns-then-word-gt-WORD_LIMIT : goal.returns-then-word-gt-WORD_LIMIT
-returns-then-word-gt-WORD_LIMIT c = FormulaWord-long c.args.task.now c.args.word.now (omega (arith, c.if-word-gt-WORD_LIMIT.true))
+pub returns-then-word : goal.returns-then-word
+returns-then-word c = FormulaWord-long c.args.task.now c.args.word.now (omega (arith, c.if-word.true))
 
 pub returns : goal.returns
 returns c =
     let t = c.args.task.now in
     MatchResult-weaker c.read_formula.result c.read_formula.ensures
     (λ f h. subst (λ text. IsFormulaOf t text f) c.as_bytes.ensures.value h)
-    (λ stop h. FormulaWord-short t c.args.word.now stop c.if-word-gt-WORD_LIMIT.false (subst (λ text. StopsBy (FormulaRead t text nothing_behind) stop) c.as_bytes.ensures.value h))
+    (λ stop h. FormulaWord-short t c.args.word.now stop (omega (arith, c.if-word.false)) (subst (λ text. StopsBy (FormulaRead t text nothing_behind) stop) c.as_bytes.ensures.value h))

@@ -1,31 +1,28 @@
 -- Where the reading of a task ends.
 use Rattle.std.proofs.lemmas.Result.{err_from_is_err_and, MatchResult-weaker}
-use Rattle.ep_reading.proofs.Steps.{stops_at_tokens, stops_at_tree, stops_at_types, stops_at_ground, tree_of, tree_is_read}
+use Rattle.ep_reading.proofs.Steps.{stops_at_text, stops_at_types, stops_at_ground, tree_of, tree_is_read}
 use Rattle.ep_reading.proofs.read.read_task.Goals as goal
 
 pub ground_task-requires : goal.ground_task-requires
 ground_task-requires c =
-    tree_is_read c.args.bytes.now c.in_ok-found.found c.in_ok-typed.typed
-    (tree_of c.args.bytes.now c.in_ok-found.found c.in_ok-tree.tree c.in_ok-typed.typed c.in_ok-found.ensures c.in_ok-tree.ensures c.in_ok-typed.ensures)
+    let text = c.in_ok-text.text in
+    tree_is_read c.args.bytes.now text.tokens c.in_ok-typed.typed (tree_of c.args.bytes.now text.tokens text.tree c.in_ok-typed.typed c.in_ok-text.ensures c.in_ok-typed.ensures)
 
-pub returns-in_err-found : goal.returns-in_err-found
-returns-in_err-found c =
+pub returns-in_err-text : goal.returns-in_err-text
+returns-in_err-text c =
     let p = err_from_is_err_and c.from_residual.result c.from_residual.ensures.1 in
-    rw (p.1, p.2) (stops_at_tokens c.args.bytes.now _ c.in_err-found.ensures)
-
-pub returns-in_err-tree : goal.returns-in_err-tree
-returns-in_err-tree c =
-    let p = err_from_is_err_and c.from_residual-in_err-tree.result c.from_residual-in_err-tree.ensures.1 in
-    rw (p.1, p.2) (stops_at_tree c.args.bytes.now c.in_ok-found.found _ c.in_ok-found.ensures c.in_err-tree.ensures)
+    rw (p.1, p.2) (stops_at_text c.args.bytes.now _ c.in_err-text.ensures)
 
 pub returns-in_err-typed : goal.returns-in_err-typed
 returns-in_err-typed c =
     let p = err_from_is_err_and c.from_residual-in_err-typed.result c.from_residual-in_err-typed.ensures.1 in
-    rw (p.1, p.2) (stops_at_types c.args.bytes.now c.in_ok-found.found c.in_ok-tree.tree _ c.in_ok-found.ensures c.in_ok-tree.ensures c.in_err-typed.ensures)
+    let text = c.in_ok-text.text in
+    rw (p.1, p.2) (stops_at_types c.args.bytes.now text.tokens text.tree _ c.in_ok-text.ensures c.in_err-typed.ensures)
 
 pub returns : goal.returns
 returns c =
-    let is_tree = tree_of c.args.bytes.now c.in_ok-found.found c.in_ok-tree.tree c.in_ok-typed.typed c.in_ok-found.ensures c.in_ok-tree.ensures c.in_ok-typed.ensures in
+    let text = c.in_ok-text.text in
+    let is_tree = tree_of c.args.bytes.now text.tokens text.tree c.in_ok-typed.typed c.in_ok-text.ensures c.in_ok-typed.ensures in
     MatchResult-weaker c.ground_task.result c.ground_task.ensures
-    (λ g h. record { found = c.in_ok-found.found; tree = c.in_ok-typed.typed; is_tree = is_tree; is_ground = h })
-    (λ stop h. stops_at_ground c.args.bytes.now c.in_ok-found.found c.in_ok-typed.typed stop is_tree h)
+    (λ g h. record { found = text.tokens; tree = c.in_ok-typed.typed; is_tree = is_tree; is_ground = h })
+    (λ stop h. stops_at_ground c.args.bytes.now text.tokens c.in_ok-typed.typed stop is_tree h)

@@ -9,11 +9,11 @@ use Rattle.ep_reading.proofs.runs.ran.Goals as goal
 
 pub run-requires-clause-actions : goal.run-requires-clause-actions
 run-requires-clause-actions c =
-    subst (λ (T : PlanningTask). AreOf T c.args.plan.now) (sym c.problem.ensures.value) (actions_of_problem c.args.task.now c.args.plan.now c.actions-actions.ensures.named.actions c.requires.actions)
+    subst (λ (T : PlanningTask). AreOf T c.args.plan.now) (sym c.problem.ensures.value) (actions_of_problem c.args.task.now c.args.plan.now c.known.ensures.actions c.requires.actions)
 
 pub returns-in-After : goal.returns-in-After
 returns-in-After c =
-    left_of_run c.args.task.now c.args.plan.now _ c.in-After.state c.problem.result.now c.actions-actions.ensures.named c.problem.ensures.value c.problem.ensures.valid c.problem.ensures.small c.in_ok-state.ensures c.in-After.is
+    left_of_run c.args.task.now c.args.plan.now _ c.in-After.state c.problem.result.now c.known.ensures c.problem.ensures.value c.problem.ensures.valid c.problem.ensures.small c.in_ok-state.ensures c.in-After.is
 
 pub returns-in-Stuck : goal.returns-in-Stuck
 returns-in-Stuck c = ran_stops c.args.whose c.args.task.now c.args.plan.now (Stuck c.in-Stuck.step) _ (run_is c.args.task.now c.args.plan.now _ _ c.problem.result.now c.problem.ensures.value c.in_ok-state.ensures c.in-Stuck.is) c.stopped.ensures

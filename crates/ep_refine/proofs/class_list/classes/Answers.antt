@@ -1,5 +1,5 @@
 use Rattle.std.proofs.Common.{refl, arith, slice_index, Bool, Vec, Global, ◌∙◌}
-use Rattle.ep_theory.proofs.Laws.{classes_decide}
+use Rattle.ep_theory.proofs.CallerLemmas.{classes_decide}
 use Rattle.ep_refine.proofs.RoundLemmas.{first_ranks, rows_long}
 use Rattle.ep_refine.proofs.class_list.classes.Goals as goal
 

@@ -3,7 +3,7 @@ use Rattle.std.specs.Ordering.{nat_cmp, ordering_then}
 use Rattle.std.specs.Cmp.Lexicographic.{slice_cmp, bytes_decides}
 use Rattle.ep_theory.specs.Kind.{node_cmp}
 use Rattle.ep_theory.specs.Ranks.{RanksAt, signature}
-use Rattle.ep_theory.proofs.Ranked.{slice_cmp-map}
+use Rattle.ep_theory.proofs.CallerLemmas.{slice_cmp-map}
 use Rattle.ep_refine.specs.declared.signing.Signature.{Signature}
 use Rattle.ep_refine.specs.Signing.{node_of}
 use Rattle.ep_refine.proofs.RoundLemmas.{next_ranks, last_ranks, signed_long}

@@ -1,33 +1,33 @@
 use Rattle.std.proofs.Common.{slice_index, ◌∙◌, sym, ap, subst, length}
 use Rattle.std.proofs.lemmas.List.{length-map}
 use Rattle.ep_theory.specs.Kripke.{IsState, truth_of}
-use Rattle.ep_refine.specs.Marking.{is_marked}
+use Rattle.ep_logic.specs.Rows.{value_at}
 use Rattle.ep_refine.proofs.ImageLemmas.{made_rows, made_state, made_bounded, made_image}
 use Rattle.ep_refine.proofs.images.image.Goals as goal
 
 pub from_rows-requires-clause-rows : goal.from_rows-requires-clause-rows
-from_rows-requires-clause-rows c = made_rows c.args.s.now c.designated.ensures.valid c.designated.ensures.bounded (is_marked c.args.keep.now) (slice_index c.args.numbers.now) c.args.chosen.now c.requires.choice c.requires.few
+from_rows-requires-clause-rows c = made_rows c.args.s.now c.designated.ensures.valid c.designated.ensures.bounded (value_at c.args.keep.now) (slice_index c.args.numbers.now) c.args.chosen.now c.requires.choice c.requires.few
     c.agents.result c.atoms.result c.in_ok-truth.truth c.in_ok-relations.relations c.designated.result.now c.from_vec.result
     c.agents.ensures.value c.atoms.ensures.value c.in_ok-truth.ensures c.in_ok-relations.ensures c.designated.ensures.value (c.from_vec.ensures ∙ c.in_ok-designated.ensures)
 
 pub from_rows-requires-clause-valid : goal.from_rows-requires-clause-valid
-from_rows-requires-clause-valid c = made_state c.args.s.now c.designated.ensures.valid c.designated.ensures.bounded (is_marked c.args.keep.now) (slice_index c.args.numbers.now) c.args.chosen.now c.requires.choice c.requires.few
+from_rows-requires-clause-valid c = made_state c.args.s.now c.designated.ensures.valid c.designated.ensures.bounded (value_at c.args.keep.now) (slice_index c.args.numbers.now) c.args.chosen.now c.requires.choice c.requires.few
     c.agents.result c.atoms.result c.in_ok-truth.truth c.in_ok-relations.relations c.designated.result.now c.from_vec.result
     c.agents.ensures.value c.atoms.ensures.value c.in_ok-truth.ensures c.in_ok-relations.ensures c.designated.ensures.value (c.from_vec.ensures ∙ c.in_ok-designated.ensures)
 
 pub from_rows-requires-clause-bounded : goal.from_rows-requires-clause-bounded
-from_rows-requires-clause-bounded c = made_bounded c.args.s.now c.designated.ensures.valid c.designated.ensures.bounded (is_marked c.args.keep.now) (slice_index c.args.numbers.now) c.args.chosen.now c.requires.choice c.requires.few
+from_rows-requires-clause-bounded c = made_bounded c.args.s.now c.designated.ensures.valid c.designated.ensures.bounded (value_at c.args.keep.now) (slice_index c.args.numbers.now) c.args.chosen.now c.requires.choice c.requires.few
     c.agents.result c.atoms.result c.in_ok-truth.truth c.in_ok-relations.relations c.designated.result.now c.from_vec.result
     c.agents.ensures.value c.atoms.ensures.value c.in_ok-truth.ensures c.in_ok-relations.ensures c.designated.ensures.value (c.from_vec.ensures ∙ c.in_ok-designated.ensures)
 
 pub returns : goal.returns
 returns c = record {
-  image = made_image c.args.s.now c.designated.ensures.valid c.designated.ensures.bounded (is_marked c.args.keep.now) (slice_index c.args.numbers.now) c.args.chosen.now c.requires.choice c.requires.few
+  image = made_image c.args.s.now c.designated.ensures.valid c.designated.ensures.bounded (value_at c.args.keep.now) (slice_index c.args.numbers.now) c.args.chosen.now c.requires.choice c.requires.few
       c.agents.result c.atoms.result c.in_ok-truth.truth c.in_ok-relations.relations c.designated.result.now c.from_vec.result
       c.agents.ensures.value c.atoms.ensures.value c.in_ok-truth.ensures c.in_ok-relations.ensures c.designated.ensures.value (c.from_vec.ensures ∙ c.in_ok-designated.ensures)
-      c.from_rows.result c.from_rows.ensures;
-  worlds = ap (λ q. q.worlds) c.from_rows.ensures ∙ ap length c.in_ok-truth.ensures ∙ length-map c.args.chosen.now (truth_of c.args.s.now);
-  valid = subst IsState (sym c.from_rows.ensures) (made_state c.args.s.now c.designated.ensures.valid c.designated.ensures.bounded (is_marked c.args.keep.now) (slice_index c.args.numbers.now) c.args.chosen.now c.requires.choice c.requires.few
+      c.in_ok-image.image c.in_ok-image.ensures;
+  worlds = ap (λ q. q.worlds) c.in_ok-image.ensures ∙ ap length c.in_ok-truth.ensures ∙ length-map c.args.chosen.now (truth_of c.args.s.now);
+  valid = subst IsState (sym c.in_ok-image.ensures) (made_state c.args.s.now c.designated.ensures.valid c.designated.ensures.bounded (value_at c.args.keep.now) (slice_index c.args.numbers.now) c.args.chosen.now c.requires.choice c.requires.few
       c.agents.result c.atoms.result c.in_ok-truth.truth c.in_ok-relations.relations c.designated.result.now c.from_vec.result
       c.agents.ensures.value c.atoms.ensures.value c.in_ok-truth.ensures c.in_ok-relations.ensures c.designated.ensures.value (c.from_vec.ensures ∙ c.in_ok-designated.ensures));
 }

@@ -1,7 +1,6 @@
 use Rattle.std.proofs.Common.{◌≡◌, false, length, sym, ◌∙◌, arith}
 use Rattle.ep_theory.specs.Kripke.{truth_of}
-use Rattle.ep_theory.proofs.Filters.{All-at}
-use Rattle.ep_theory.proofs.Unique.{same_places}
+use Rattle.ep_theory.proofs.CallerLemmas.{All-at, same_places}
 use Rattle.ep_refine.proofs.images.truth_of_one.Goals as goal
 
 pub returns : goal.returns

@@ -1,7 +1,7 @@
 use Rattle.std.proofs.Common.{◌≡◌, length, ap, sym, subst, ◌∙◌, arith, slice_index}
 use Rattle.std.proofs.lemmas.List.FromFn.{length-map-range_with_len}
 use Rattle.std.proofs.lemmas.Result.{IfOk-weaker}
-use Rattle.ep_refine.specs.Marking.{is_marked}
+use Rattle.ep_logic.specs.Rows.{value_at}
 use Rattle.ep_refine.specs.Choices.{IsChoice}
 use Rattle.ep_theory.specs.Image.{IsImage}
 use Rattle.ep_refine.specs.Kept.{kept_before, IsRestriction}
@@ -21,11 +21,11 @@ image-requires-clause-few c =
 
 pub image-requires-clause-choice : goal.image-requires-clause-choice
 image-requires-clause-choice c =
-    subst (IsChoice c.args.s.now (is_marked c.args.keep.now) (slice_index c.deref.result.now)) (sym (c.deref-2.ensures.value ∙ c.in_ok-worlds.ensures.worlds))
+    subst (IsChoice c.args.s.now (value_at c.args.keep.now) (slice_index c.deref.result.now)) (sym (c.deref-2.ensures.value ∙ c.in_ok-worlds.ensures.worlds))
     (kept_choice c.args.keep.now c.args.s.now c.kept_worlds.ensures.valid c.deref.result.now (c.deref.ensures.value ∙ c.in_ok-worlds.ensures.numbers) c.requires.designated)
 
 pub returns-clause-restriction : goal.returns-clause-restriction
-returns-clause-restriction c = IfOk-weaker c.image.result (IsImage c.args.s.now (is_marked c.args.keep.now) (slice_index c.deref.result.now)) (IsRestriction c.args.s.now c.args.keep.now)
+returns-clause-restriction c = IfOk-weaker c.image.result (IsImage c.args.s.now (value_at c.args.keep.now) (slice_index c.deref.result.now)) (IsRestriction c.args.s.now c.args.keep.now)
     (λ q m. restriction c.args.s.now q c.kept_worlds.ensures.valid c.args.keep.now c.deref.result.now (c.deref.ensures.value ∙ c.in_ok-worlds.ensures.numbers) m)
     c.image.ensures.image
 

@@ -4,8 +4,7 @@ use Rattle.std.specs.Cmp.{unsigned_ties}
 use Rattle.std.proofs.lemmas.Cmp.{nat_eq_equiv}
 use Rattle.std.proofs.lemmas.List.Filters.{dedup_is}
 use Rattle.ep_theory.specs.Rising.{rising}
-use Rattle.ep_theory.proofs.Unique.{numbers}
-use Rattle.ep_theory.proofs.Bridges.{sorted_and_deduped}
+use Rattle.ep_theory.proofs.CallerLemmas.{numbers, sorted_and_deduped}
 use Rattle.ep_refine.proofs.signing.distinct_ranks.Goals as goal
 
 pub returns : goal.returns

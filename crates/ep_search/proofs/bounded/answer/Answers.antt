@@ -3,7 +3,7 @@ use Rattle.std.specs.List.{AllByRecursion}
 use Rattle.ep_theory.specs.Kripke.{Kripke}
 use Rattle.ep_theory.specs.Fits.{Fits}
 use Rattle.ep_theory.specs.Canonical.{Contracts}
-use Rattle.ep_problem.specs.Plans.{Satisfies}
+use Rattle.ep_theory.specs.Truth.{Satisfies}
 use Rattle.ep_search.specs.Conjuncts.{AreParts}
 use Rattle.ep_search.proofs.AlikeLemmas.{to_Alike}
 use Rattle.ep_search.proofs.GoalLemmas.{parts_fit, goal_at, unmet_at, unmet_here}
@@ -19,7 +19,7 @@ count_unmet-requires-clause-fit g c =
 pub returns-in-Prove-clause-allowed : goal.returns-in-Prove-clause-allowed
 returns-in-Prove-clause-allowed g c =
     let parts = subst (AreParts c.args.problem.now.goal) (sym c.as_slice.ensures) c.requires.parts in
-    let tells = subst (λ S. (c.in_ok-unmet.unmet ≡ 0) ↔ AllByRecursion (Satisfies S) c.as_slice.result.now) c.initial.ensures.value c.in_ok-unmet.ensures in (
+    let tells = subst (λ S. (c.in_ok-unmet.unmet ≡ 0) ↔ AllByRecursion (Satisfies S) c.as_slice.result.now) c.initial.ensures.value c.in_ok-unmet.ensures.none in (
       c.in-Prove.is,
       shortest_empty c.args.problem.now c.args.setting.now.bounds.depth _ c.new.ensures
           (goal_at c.args.problem.now.initial c.args.problem.now.goal c.as_slice.result.now c.in_ok-unmet.unmet parts tells c.if-unmet-eq0.true),
@@ -28,16 +28,16 @@ returns-in-Prove-clause-allowed g c =
 pub returns-in-First-clause-allowed : goal.returns-in-First-clause-allowed
 returns-in-First-clause-allowed g c =
     let parts = subst (AreParts c.args.problem.now.goal) (sym c.as_slice.ensures) c.requires.parts in
-    let tells = subst (λ S. (c.in_ok-unmet.unmet ≡ 0) ↔ AllByRecursion (Satisfies S) c.as_slice.result.now) c.initial.ensures.value c.in_ok-unmet.ensures in
+    let tells = subst (λ S. (c.in_ok-unmet.unmet ≡ 0) ↔ AllByRecursion (Satisfies S) c.as_slice.result.now) c.initial.ensures.value c.in_ok-unmet.ensures.none in
     found_empty c.args.problem.now c.args.setting.now.bounds.depth _ _ _ _ c.new-in-First.ensures
     (goal_at c.args.problem.now.initial c.args.problem.now.goal c.as_slice.result.now c.in_ok-unmet.unmet parts tells c.if-unmet-eq0.true) c.in-First.is
 
 pub returns-then-setting-worlds-clause-allowed : goal.returns-then-setting-worlds-clause-allowed
 returns-then-setting-worlds-clause-allowed g c =
     let parts = subst (AreParts c.args.problem.now.goal) (sym c.as_slice.ensures) c.requires.parts in
-    let tells = subst (λ S. (c.in_ok-unmet.unmet ≡ 0) ↔ AllByRecursion (Satisfies S) c.as_slice.result.now) c.initial.ensures.value c.in_ok-unmet.ensures in
+    let tells = subst (λ S. (c.in_ok-unmet.unmet ≡ 0) ↔ AllByRecursion (Satisfies S) c.as_slice.result.now) c.initial.ensures.value c.in_ok-unmet.ensures.none in
     let contracts : Contracts c.args.problem.now.initial c.in_ok-canon.canon = subst (λ S. Contracts S c.in_ok-canon.canon) c.initial-2.ensures.value c.in_ok-canon.ensures.contraction in
-    wide_empty c.args.problem.now c.args.setting.now.bounds.depth c.args.setting.now.bounds.worlds c.in_ok-canon.canon _ c.new-then-setting-worlds.ensures c.in_ok-canon.ensures.valid contracts
+    wide_empty c.args.problem.now c.args.setting.now.bounds.depth c.args.setting.now.bounds.worlds c.in_ok-canon.canon _ c.new-then-setting-worlds.ensures contracts
     (unmet_here c.args.problem.now.initial c.args.problem.now.goal c.as_slice.result.now c.in_ok-unmet.unmet parts tells c.if-unmet-eq0.false)
     (subst (λ (u : Kripke). c.args.setting.now.bounds.worlds < u.worlds) c.state.ensures.value (omega (arith, c.if-setting-worlds.true, c.worlds.ensures.value)))
 
@@ -49,7 +49,7 @@ start-requires-clause-alike g c =
 pub start-requires-clause-unmet : goal.start-requires-clause-unmet
 start-requires-clause-unmet g c =
     let parts = subst (AreParts c.args.problem.now.goal) (sym c.as_slice.ensures) c.requires.parts in
-    let tells = subst (λ S. (c.in_ok-unmet.unmet ≡ 0) ↔ AllByRecursion (Satisfies S) c.as_slice.result.now) c.initial.ensures.value c.in_ok-unmet.ensures in
+    let tells = subst (λ S. (c.in_ok-unmet.unmet ≡ 0) ↔ AllByRecursion (Satisfies S) c.as_slice.result.now) c.initial.ensures.value c.in_ok-unmet.ensures.none in
     let contracts : Contracts c.args.problem.now.initial c.in_ok-canon.canon = subst (λ S. Contracts S c.in_ok-canon.canon) c.initial-2.ensures.value c.in_ok-canon.ensures.contraction in
     unmet_at c.args.problem.now.initial c.in_ok-canon.canon c.args.problem.now.goal c.as_slice.result.now c.in_ok-unmet.unmet parts tells c.if-unmet-eq0.false
     (to_Alike c.args.problem.now.initial c.in_ok-canon.canon c.initial.ensures.valid.initial c.in_ok-canon.ensures.valid contracts.bisimilar)

@@ -1,6 +1,7 @@
 use Rattle.std.proofs.Common.{sym, subst, arith}
 use Rattle.ep_search.specs.Conjuncts.{AreParts}
-use Rattle.ep_search.specs.Made.{IsMade, AppliesNowhere}
+use Rattle.ep_search.specs.Made.{IsMade}
+use Rattle.ep_update.specs.Updates.{AppliesNowhere}
 use Rattle.ep_search.specs.Sound.{refused}
 use Rattle.ep_search.proofs.AlikeLemmas.{to_Alike}
 use Rattle.ep_search.proofs.GoalLemmas.{goal_at, unmet_at}
@@ -32,13 +33,13 @@ pub met_goal-requires-clause-leads : goal.met_goal-requires-clause-leads
 met_goal-requires-clause-leads g c =
     let made : IsMade c.state.result.now c.action.result.now c.in-Some.child = rw c.in-Some.is at c.in_ok-made.ensures.makes in
     let parts = subst (AreParts c.args.problem.now.goal) (sym c.as_slice.ensures) c.requires.setting.parts in
-    goal_by _ c.action.ensures.valid _ _ _ c.requires.keeps.sound _ c.args.a _ _ _ c.requires.entry c.get.ensures c.state.ensures.value c.action.ensures.value c.in-Some.child made (goal_at c.in-Some.child c.args.problem.now.goal c.as_slice.result.now c.in_ok-unmet.unmet parts c.in_ok-unmet.ensures c.if-unmet-eq0.true)
+    goal_by _ c.action.ensures.valid _ _ _ c.requires.keeps.sound _ c.args.a _ _ _ c.requires.entry c.get.ensures c.state.ensures.value c.action.ensures.value c.in-Some.child made (goal_at c.in-Some.child c.args.problem.now.goal c.as_slice.result.now c.in_ok-unmet.unmet parts c.in_ok-unmet.ensures.none c.if-unmet-eq0.true)
 
 pub stop_wide-requires-clause-unmet : goal.stop_wide-requires-clause-unmet
 stop_wide-requires-clause-unmet g c =
     let made : IsMade c.state.result.now c.action.result.now c.in-Some.child = rw c.in-Some.is at c.in_ok-made.ensures.makes in
     let parts = subst (AreParts c.args.problem.now.goal) (sym c.as_slice.ensures) c.requires.setting.parts in
-    unmet_at c.in-Some.child c.in_ok-canon.canon c.args.problem.now.goal c.as_slice.result.now c.in_ok-unmet.unmet parts c.in_ok-unmet.ensures c.if-unmet-eq0.false
+    unmet_at c.in-Some.child c.in_ok-canon.canon c.args.problem.now.goal c.as_slice.result.now c.in_ok-unmet.unmet parts c.in_ok-unmet.ensures.none c.if-unmet-eq0.false
     (to_Alike c.in-Some.child c.in_ok-canon.canon made.valid c.in_ok-canon.ensures.valid c.in_ok-canon.ensures.contraction.bisimilar)
 
 pub stop_wide-requires-clause-leads : goal.stop_wide-requires-clause-leads
@@ -51,7 +52,7 @@ pub store_child-requires-clause-unmet : goal.store_child-requires-clause-unmet
 store_child-requires-clause-unmet g c =
     let made : IsMade c.state.result.now c.action.result.now c.in-Some.child = rw c.in-Some.is at c.in_ok-made.ensures.makes in
     let parts = subst (AreParts c.args.problem.now.goal) (sym c.as_slice.ensures) c.requires.setting.parts in
-    unmet_at c.in-Some.child c.in_ok-canon.canon c.args.problem.now.goal c.as_slice.result.now c.in_ok-unmet.unmet parts c.in_ok-unmet.ensures c.if-unmet-eq0.false
+    unmet_at c.in-Some.child c.in_ok-canon.canon c.args.problem.now.goal c.as_slice.result.now c.in_ok-unmet.unmet parts c.in_ok-unmet.ensures.none c.if-unmet-eq0.false
     (to_Alike c.in-Some.child c.in_ok-canon.canon made.valid c.in_ok-canon.ensures.valid c.in_ok-canon.ensures.contraction.bisimilar)
 
 pub store_child-requires-clause-leads : goal.store_child-requires-clause-leads

@@ -1,4 +1,4 @@
-use Rattle.ep_theory.proofs.Laws.{only_contraction}
+use Rattle.ep_theory.proofs.states.Laws.{only_contraction}
 use Rattle.ep_theory.proofs.contractions.contraction_is_unique.Goals as goal
 
 pub returns : goal.returns

@@ -1,4 +1,4 @@
-use Rattle.ep_theory.proofs.Laws.{kinds_transitive, kinds_turned, kinds_same}
+use Rattle.ep_theory.proofs.states.Laws.{kinds_transitive, kinds_turned, kinds_same}
 use Rattle.ep_theory.proofs.contractions.kinds_are_ordered.Goals as goal
 
 pub returns : goal.returns

@@ -1,4 +1,4 @@
-use Rattle.ep_theory.proofs.Laws.{one_state_decides}
+use Rattle.ep_theory.proofs.states.Laws.{one_state_decides}
 use Rattle.ep_theory.proofs.contractions.kinds_decide_in_one_state.Goals as goal
 
 pub returns : goal.returns

@@ -1,5 +1,5 @@
 use Rattle.std.proofs.Common.{◌<◌, All, length, sym, ap, ◌∙◌, subst, arith}
-use Rattle.ep_truth.specs.Sources.{with_sources}
+use Rattle.ep_kripke.specs.Sources.{with_sources}
 use Rattle.ep_truth.proofs.LabelLemmas.{successors_within}
 use Rattle.ep_truth.proofs.CommonLemmas.{adding_more, adding_room, adding_all, adding_counted}
 use Rattle.ep_truth.proofs.common.add_links.Goals as goal
@@ -7,19 +7,19 @@ use Rattle.ep_truth.proofs.common.add_links.Goals as goal
 pub add_all-requires-clause-worlds : goal.add_all-requires-clause-worlds
 add_all-requires-clause-worlds c =
     let s = c.args.s.now in
-    subst (λ n. All (λ v. v < n) c.targets.result.now) (sym c.loop-w.invariant.long)
-    (subst (λ vs. All (λ v. v < s.worlds) vs) (sym c.targets.ensures.value) (successors_within s c.targets.ensures.valid c.args.a.n c.loop-w.w))
+    subst (λ n. All (λ v. v < n) c.deref.result.now) (sym c.loop-w.invariant.long)
+    (subst (λ vs. All (λ v. v < s.worlds) vs) (sym (c.deref.ensures.value ∙ c.in_ok-read_targets.ensures.value)) (successors_within s c.in_ok-read_targets.ensures.valid c.args.a.n c.loop-w.w))
 
 pub add_all-requires-clause-room : goal.add_all-requires-clause-room
 add_all-requires-clause-room c =
     let s = c.args.s.now in
-    omega (arith, adding_room s c.targets.ensures.valid c.args.a.n c.args.sources.now c.loop-w.w c.loop-w.sources c.loop-w.invariant, ap length c.targets.ensures.value, c.requires.room)
+    omega (arith, adding_room s c.in_ok-read_targets.ensures.valid c.args.a.n c.args.sources.now c.loop-w.w c.loop-w.sources c.loop-w.invariant, ap length (c.deref.ensures.value ∙ c.in_ok-read_targets.ensures.value), c.requires.room)
 
 pub loop-w-preserved : goal.loop-w-preserved
 loop-w-preserved c =
     let s = c.args.s.now in
-    adding_more s c.targets.ensures.valid c.args.a.n c.args.sources.now c.loop-w.w c.loop-w.sources c.add_all.new.self c.loop-w.invariant
-    (c.in_ok-add_all.ensures ∙ ap (with_sources c.loop-w.sources c.loop-w.w) c.targets.ensures.value)
+    adding_more s c.in_ok-read_targets.ensures.valid c.args.a.n c.args.sources.now c.loop-w.w c.loop-w.sources c.add_all.new.self c.loop-w.invariant
+    (c.in_ok-add_all.ensures ∙ ap (with_sources c.loop-w.sources c.loop-w.w) (c.deref.ensures.value ∙ c.in_ok-read_targets.ensures.value))
 
 pub returns-clause-counted : goal.returns-clause-counted
 returns-clause-counted c = adding_counted c.args.s.now c.worlds-w-end.ensures.valid c.args.a.n c.args.sources.now c.loop-w.w c.loop-w.sources c.loop-w.invariant

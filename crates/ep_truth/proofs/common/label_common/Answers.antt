@@ -1,8 +1,8 @@
 use Rattle.std.proofs.Common.{◌≡◌, [], ◌∷◌, ◌++◌, ◌<◌, sym, subst, arith, inl, refl, rules}
 use Rattle.ep_theory.specs.Rising.{IsIn}
-use Rattle.ep_theory.proofs.Bools.{in_right}
-use Rattle.ep_truth.specs.Sources.{row_at}
-use Rattle.ep_truth.specs.Taking.{without, taken}
+use Rattle.ep_theory.proofs.CallerLemmas.{in_right}
+use Rattle.ep_kripke.specs.Sources.{row_at}
+use Rattle.ep_kripke.specs.Taking.{without, taken}
 use Rattle.ep_truth.proofs.CommonLemmas.{IsSpreading, spreading_none, spreading_more, spreading_all, weight, weight_falls, source_within}
 use Rattle.ep_truth.proofs.common.label_common.Goals as goal
 

@@ -1,11 +1,11 @@
-use Rattle.std.proofs.Common.{◌≡◌, length, false, replicate, IfOk, get_or, rules, arith, sym, ap, ◌∙◌, subst}
+use Rattle.std.proofs.Common.{◌≡◌, length, true, false, replicate, IfOk, get_or, rules, arith, sym, ap, ◌∙◌, subst}
 use Rattle.std.proofs.lemmas.Result.{IfOk-weaker}
-use Rattle.ep_logic.specs.declared.formula.Node.TheVariants.{False, Atom, And, Or, Knows}
+use Rattle.ep_logic.specs.declared.formula.Node.TheVariants.{True, False, Atom, And, Or, Knows}
 use Rattle.ep_logic.specs.declared.formula.Node.TheFolds.{the_lemmas}
 use Rattle.ep_theory.specs.Fits.{fits_in}
-use Rattle.ep_truth.specs.Labels.{IsLabel, Tells, atom_test, all_test, any_test, knows_test}
+use Rattle.ep_truth.specs.Labels.{IsLabel, atom_test, all_test, any_test, knows_test, HasValues}
 use Rattle.ep_truth.proofs.FitLemmas.{fits_in-And, fits_in-Or}
-use Rattle.ep_truth.proofs.LabelLemmas.{ones_label, label-False, label-Atom, label-Not, label-And, label-Or, label-Knows, common_label, tells_and, tells_or}
+use Rattle.ep_truth.proofs.LabelLemmas.{label-True, label-False, label-Atom, label-Not, label-And, label-Or, label-Knows, common_label, tells_and, tells_or}
 use Rattle.ep_truth.proofs.labels.+label.Goals as goal
 
 pub label_node-label_and-requires : goal.label_node-label_and-requires
@@ -21,8 +21,9 @@ label_node-label_or-requires t c =
 pub label_node-returns-in-True : goal.label_node-returns-in-True
 label_node-returns-in-True t c =
     let s = c.args.s.now in
+    let n = c.worlds-worlds.ensures.value in
     subst (λ n. IfOk c.ones.result (IsLabel s n)) (sym c.in-True.is)
-    (ones_label s c.worlds-worlds.result c.worlds-worlds.ensures.value c.ones.result c.ones.ensures.long c.ones.ensures.each)
+    (IfOk-weaker c.ones.result _ (IsLabel s True) (λ row h. label-True s row (h ∙ ap (λ n. replicate n true) n)) c.ones.ensures)
 
 pub label_node-returns-in-False : goal.label_node-returns-in-False
 label_node-returns-in-False t c =
@@ -36,7 +37,7 @@ label_node-returns-in-Atom t c =
     let s = c.args.s.now in
     let p = c.in-Atom.p in
     subst (λ n. IfOk c.label_atom.result (IsLabel s n)) (sym c.in-Atom.is)
-    (IfOk-weaker c.label_atom.result (Tells s.worlds (atom_test s p.n)) (IsLabel s (Atom p)) (label-Atom s p) c.label_atom.ensures)
+    (IfOk-weaker c.label_atom.result (HasValues s.worlds (atom_test s p.n)) (IsLabel s (Atom p)) (label-Atom s p) c.label_atom.ensures)
 
 pub label_node-returns-in_ok-row-in-Not : goal.label_node-returns-in_ok-row-in-Not
 label_node-returns-in_ok-row-in-Not t c =
@@ -44,22 +45,22 @@ label_node-returns-in_ok-row-in-Not t c =
     let f = c.in-Not.inner in
     let row = c.in_ok-row-in-Not.row in
     let had : IsLabel s f row = subst (λ n. IsLabel s n row) c.get.ensures c.in_ok-row-in-Not.ensures in
-    subst (λ n. IsLabel s n c.flip.new.row) (sym c.in-Not.is)
-    (label-Not s f row c.flip.new.row had c.flip.ensures.long c.flip.ensures.each)
+    subst (λ n. IsLabel s n c.flip.new.self) (sym c.in-Not.is)
+    (label-Not s f row c.flip.new.self had c.flip.ensures)
 
 pub label_node-returns-in-And : goal.label_node-returns-in-And
 label_node-returns-in-And t c =
     let s = c.args.s.now in
     let fs = c.in-And.parts in
     subst (λ n. IfOk c.label_and.result (IsLabel s n)) (sym c.in-And.is)
-    (IfOk-weaker c.label_and.result (Tells s.worlds (all_test s fs)) (IsLabel s (And fs)) (label-And s fs) c.label_and.ensures)
+    (IfOk-weaker c.label_and.result (HasValues s.worlds (all_test s fs)) (IsLabel s (And fs)) (label-And s fs) c.label_and.ensures)
 
 pub label_node-returns-in-Or : goal.label_node-returns-in-Or
 label_node-returns-in-Or t c =
     let s = c.args.s.now in
     let fs = c.in-Or.parts in
     subst (λ n. IfOk c.label_or.result (IsLabel s n)) (sym c.in-Or.is)
-    (IfOk-weaker c.label_or.result (Tells s.worlds (any_test s fs)) (IsLabel s (Or fs)) (label-Or s fs) c.label_or.ensures)
+    (IfOk-weaker c.label_or.result (HasValues s.worlds (any_test s fs)) (IsLabel s (Or fs)) (label-Or s fs) c.label_or.ensures)
 
 pub label_node-returns-in_ok-row-in-Knows : goal.label_node-returns-in_ok-row-in-Knows
 label_node-returns-in_ok-row-in-Knows t c =
@@ -69,7 +70,7 @@ label_node-returns-in_ok-row-in-Knows t c =
     let inner = c.in_ok-row-in-Knows.row in
     let had : IsLabel s f inner = subst (λ n. IsLabel s n inner) c.get-in-Knows.ensures c.in_ok-row-in-Knows.ensures in
     subst (λ n. IfOk c.label_knows.result (IsLabel s n)) (sym c.in-Knows.is)
-    (IfOk-weaker c.label_knows.result (Tells s.worlds (knows_test s a.n inner)) (IsLabel s (Knows a f)) (λ row. label-Knows s c.worlds-worlds.ensures.valid a f inner row had) c.label_knows.ensures)
+    (IfOk-weaker c.label_knows.result (HasValues s.worlds (knows_test s a.n inner)) (IsLabel s (Knows a f)) (λ row. label-Knows s c.worlds-worlds.ensures.valid a f inner row had) c.label_knows.ensures)
 
 pub label_node-returns-in_ok-row-in-Common : goal.label_node-returns-in_ok-row-in-Common
 label_node-returns-in_ok-row-in-Common t c =
@@ -102,5 +103,5 @@ label_or-loop-part-preserved t c =
     let next = c.in_ok-next.next in
     let items = c.as_slice-part-items.ensures in
     let part : d ≡ get_or fs i d = c.part-item.is ∙ ap (λ xs. get_or xs i d) items in
-    tells_or s fs i d c.loop-part.row next c.or_with.new.row (omega (arith, ap length items, c.loop-part-test.true))
-    c.loop-part.invariant (subst (λ n. IsLabel s n next) part c.in_ok-next.ensures) c.or_with.ensures.long c.or_with.ensures.each
+    tells_or s fs i d c.loop-part.row next c.or_with.new.self (omega (arith, ap length items, c.loop-part-test.true))
+    c.loop-part.invariant (subst (λ n. IsLabel s n next) part c.in_ok-next.ensures) c.or_with.ensures

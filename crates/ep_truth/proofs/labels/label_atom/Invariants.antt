@@ -1,5 +1,6 @@
 use Rattle.std.proofs.Common.{◌≡◌, ℕ, ◌<◌, length}
-use Rattle.ep_truth.specs.Labels.{value_at, atom_test}
+use Rattle.ep_truth.specs.Labels.{atom_test}
+use Rattle.ep_logic.specs.Rows.{value_at}
 use Rattle.ep_truth.proofs.labels.label_atom.Given as goal
 
 abbrev pub invariant-loop-w : goal.invariant-loop-w

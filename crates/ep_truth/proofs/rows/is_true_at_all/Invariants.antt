@@ -1,6 +1,6 @@
 use Rattle.std.proofs.Common.{◌≡◌, drop}
 use Rattle.std.specs.List.{list_all}
-use Rattle.ep_truth.specs.Labels.{value_at}
+use Rattle.ep_logic.specs.Rows.{value_at}
 use Rattle.ep_truth.proofs.rows.is_true_at_all.Given as goal
 
 abbrev pub invariant-loop-w : goal.invariant-loop-w

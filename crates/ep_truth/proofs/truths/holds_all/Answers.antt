@@ -1,7 +1,7 @@
 use Rattle.std.proofs.Common.{◌≡◌, ◌<◌, All, sym, subst, ap, ◌∙◌}
 use Rattle.std.specs.List.{list_all}
-use Rattle.ep_truth.specs.Labels.{value_at}
-use Rattle.ep_theory.proofs.Bools.{all_at, to_all}
+use Rattle.ep_logic.specs.Rows.{value_at}
+use Rattle.ep_theory.proofs.CallerLemmas.{all_at, to_all}
 use Rattle.ep_truth.proofs.LabelLemmas.{designated_within, designated_at}
 use Rattle.ep_truth.proofs.truths.holds_all.Goals as goal
 

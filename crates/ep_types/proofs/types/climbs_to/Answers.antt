@@ -8,15 +8,15 @@ pub loop-at-preserved : goal.loop-at-preserved
 loop-at-preserved c =
     let rows = c.args.rows.now in
     let at = c.loop-at.at in
-    let next = c.next-at.result in
+    let next = c.find_next-at.result in
     let a = c.args.above in
-    let above = c.next-at.ensures.above in
-    let within = c.next-at.ensures.within in
+    let above = c.find_next-at.ensures.above in
+    let within = c.find_next-at.ensures.within in
     let depth = c.depth_of-depth.ensures.value in
     let shallower = above.shallower in
     let room : depth_at rows a + (depth_at rows at - depth_at rows next) ≤ depth_at rows at = omega (arith, within, depth, shallower) in
     record {
-      there = c.next-at.ensures.there;
+      there = c.find_next-at.ensures.there;
       same = c.loop-at.invariant.same ∙ below_ups rows c.requires.linked a c.requires.above (depth_at rows at - depth_at rows next) at c.loop-at.invariant.there room
           ∙ ap (λ k. is_below (typings rows) (name_at rows k) (name_at rows a)) (sym above.is);
     }

@@ -1,5 +1,5 @@
 use Rattle.std.proofs.Common.{◌≡◌, ◌≤◌, length}
-use Rattle.ep_theory.specs.Numbers.{numbers_where}
+use Rattle.ep_logic.specs.Numbers.{numbers_where}
 use Rattle.ep_types.specs.Tasks.{declarations}
 use Rattle.ep_universe.specs.Objects.{has_type}
 use Rattle.ep_universe.proofs.count.count_objects.Given as goal

@@ -1,5 +1,5 @@
 use Rattle.std.proofs.Common.{◌≡◌}
-use Rattle.ep_theory.specs.Numbers.{numbers_where}
+use Rattle.ep_logic.specs.Numbers.{numbers_where}
 use Rattle.ep_types.specs.Tasks.{declarations}
 use Rattle.ep_universe.specs.Objects.{has_type}
 use Rattle.ep_universe.proofs.objects.objects_of.Given as goal

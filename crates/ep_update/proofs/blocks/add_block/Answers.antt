@@ -1,6 +1,6 @@
 use Rattle.std.proofs.Common.{◌≡◌, ◌∷◌, [], refl, add-one, append-nil, append_assoc, get_or, ℕ, List}
 use Rattle.std.proofs.lemmas.Bool.{le-leb, lt-leb}
-use Rattle.ep_theory.specs.Numbers.{numbers_where}
+use Rattle.ep_logic.specs.Numbers.{numbers_where}
 use Rattle.ep_theory.specs.Events.{EventModel, event_links}
 use Rattle.ep_update.specs.Places.{is_linked_from}
 use Rattle.ep_update.proofs.NumbersWhere.{numbers_where-none}

@@ -1,5 +1,5 @@
 use Rattle.std.proofs.Common.{◌≡◌, ◌++◌}
-use Rattle.ep_theory.specs.Numbers.{numbers_where}
+use Rattle.ep_logic.specs.Numbers.{numbers_where}
 use Rattle.ep_update.specs.Places.{is_linked_from}
 use Rattle.ep_update.proofs.blocks.add_block.Given as goal
 

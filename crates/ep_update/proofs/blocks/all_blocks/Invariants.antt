@@ -1,5 +1,5 @@
 use Rattle.std.proofs.Common.{◌≡◌}
-use Rattle.ep_theory.specs.Numbers.{table}
+use Rattle.ep_logic.specs.Numbers.{table}
 use Rattle.ep_update.specs.Places.{blocks}
 use Rattle.ep_update.proofs.blocks.all_blocks.Given as goal
 

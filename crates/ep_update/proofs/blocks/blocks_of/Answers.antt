@@ -1,5 +1,5 @@
 use Rattle.std.proofs.Common.{◌≡◌, ◌<◌, ◌∙◌, suc, ◌+◌, ap, arith, length, get_or, ◌++◌}
-use Rattle.ep_theory.specs.Numbers.{numbers_where}
+use Rattle.ep_logic.specs.Numbers.{numbers_where}
 use Rattle.ep_update.specs.Places.{block, first_place, is_linked_from}
 use Rattle.ep_update.proofs.ListLemmas.{read_at}
 use Rattle.ep_update.proofs.NumbersWhere.{table_push}

@@ -1,5 +1,5 @@
 use Rattle.std.proofs.Common.{◌≡◌}
-use Rattle.ep_theory.specs.Numbers.{table}
+use Rattle.ep_logic.specs.Numbers.{table}
 use Rattle.ep_update.specs.Places.{block}
 use Rattle.ep_update.proofs.blocks.blocks_of.Given as goal
 

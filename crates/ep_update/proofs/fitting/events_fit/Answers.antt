@@ -2,7 +2,7 @@ use Rattle.std.proofs.Common.{◌<◌, length, arith, refl}
 use Rattle.std.proofs.lemmas.Bool.{false≢true}
 use Rattle.ep_theory.specs.Events.{event_at, no_event}
 use Rattle.ep_theory.specs.Fits.{EventFits}
-use Rattle.ep_theory.proofs.Filters.{All-at}
+use Rattle.ep_theory.proofs.CallerLemmas.{All-at}
 use Rattle.ep_update.proofs.FittingLemmas.{event_fits}
 use Rattle.ep_update.proofs.ListLemmas.{all_more}
 use Rattle.ep_update.proofs.fitting.events_fit.Goals as goal

@@ -3,7 +3,7 @@ use Rattle.std.specs.List.{AllByRecursion}
 use Rattle.ep_logic.specs.declared.formula.Node.{Node}
 use Rattle.ep_theory.specs.Events.{Event, event_at, no_event}
 use Rattle.ep_theory.specs.Fits.{EventFits, SetFits}
-use Rattle.ep_theory.proofs.Filters.{All-at}
+use Rattle.ep_theory.proofs.CallerLemmas.{All-at}
 use Rattle.ep_update.specs.Assigned.{AssignFits}
 use Rattle.ep_update.specs.Places.{label_of}
 use Rattle.ep_update.proofs.FittingLemmas.{from_sets}

@@ -1,5 +1,5 @@
 use Rattle.std.proofs.Common.{◌≡◌, ◌≤◌, ◌+◌, ◌++◌, map, vec_len}
-use Rattle.ep_theory.specs.Numbers.{numbers_where}
+use Rattle.ep_logic.specs.Numbers.{numbers_where}
 use Rattle.ep_update.specs.Places.{is_labelled}
 use Rattle.ep_update.proofs.places.add_places.Given as goal
 

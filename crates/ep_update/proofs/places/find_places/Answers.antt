@@ -1,5 +1,5 @@
 use Rattle.std.proofs.Common.{◌≡◌, ◌∙◌, ◌+◌, ap, arith, length}
-use Rattle.ep_theory.specs.Numbers.{table}
+use Rattle.ep_logic.specs.Numbers.{table}
 use Rattle.ep_update.specs.Places.{labelled_pairs}
 use Rattle.ep_update.proofs.NumbersWhere.{table_push}
 use Rattle.ep_update.proofs.places.find_places.Goals as goal

@@ -1,5 +1,5 @@
 use Rattle.std.proofs.Common.{◌≡◌, ◌≤◌, ◌*◌, sum_by, length, ℕ}
-use Rattle.ep_theory.specs.Numbers.{table}
+use Rattle.ep_logic.specs.Numbers.{table}
 use Rattle.ep_update.specs.Places.{place_row}
 use Rattle.ep_update.proofs.rows.count_of.Given as goal
 

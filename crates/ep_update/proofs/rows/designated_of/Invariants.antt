@@ -1,5 +1,5 @@
 use Rattle.std.proofs.Common.{◌≡◌}
-use Rattle.ep_theory.specs.Numbers.{numbers_where}
+use Rattle.ep_logic.specs.Numbers.{numbers_where}
 use Rattle.ep_theory.specs.Product.{place_at, is_designated}
 use Rattle.ep_update.proofs.rows.designated_of.Given as goal
 

@@ -2,7 +2,7 @@ use Rattle.std.proofs.Common.{◌≡◌, ◌<◌, ◌∙◌, ℕ, sym, ap, lengt
 use Rattle.std.specs.List.{find, list_any}
 use Rattle.ep_kripke.specs.Parts.{world}
 use Rattle.ep_theory.specs.Product.{IsApplicable, applies, stuck_world}
-use Rattle.ep_theory.proofs.ProductLaws.{stuck_none}
+use Rattle.ep_theory.proofs.CallerLemmas.{stuck_none}
 use Rattle.ep_update.proofs.LabelLemmas.{none_exactly}
 use Rattle.ep_update.proofs.ListLemmas.{find_none_more, find_at, take_past}
 use Rattle.ep_update.proofs.stuck.first_stuck.Goals as goal

@@ -1,7 +1,7 @@
 use Rattle.std.proofs.Common.{◌∙◌, sym, get_or, arith}
 use Rattle.ep_theory.specs.Events.{event_at}
 use Rattle.ep_theory.specs.Product.{applies}
-use Rattle.ep_theory.proofs.Filters.{IsIn-at, to_any}
+use Rattle.ep_theory.proofs.CallerLemmas.{IsIn-at, to_any}
 use Rattle.ep_update.proofs.LabelLemmas.{designated_row, label_long, label_tells}
 use Rattle.ep_update.proofs.ListLemmas.{any_more}
 use Rattle.ep_update.proofs.stuck.goes_on.Goals as goal

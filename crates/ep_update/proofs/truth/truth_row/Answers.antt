@@ -1,9 +1,9 @@
 use Rattle.std.proofs.Common.{◌∙◌, ℕ, ap, arith, length, get_or, set, take}
 use Rattle.ep_logic.specs.declared.formula.Node.{Node}
 use Rattle.ep_theory.specs.Events.{event_at, no_event}
-use Rattle.ep_theory.specs.Numbers.{table}
-use Rattle.ep_theory.proofs.Filters.{All-at}
-use Rattle.ep_theory.proofs.NumbersLemmas.{length-table}
+use Rattle.ep_logic.specs.Numbers.{table}
+use Rattle.ep_theory.proofs.CallerLemmas.{All-at}
+use Rattle.ep_logic.proofs.CallerLemmas.{length-table}
 use Rattle.ep_theory.specs.Events.{Event, AreDistinct}
 use Rattle.ep_update.specs.Assigned.{atom_with}
 use Rattle.ep_update.proofs.AssignedLemmas.{no_set, next_effect}

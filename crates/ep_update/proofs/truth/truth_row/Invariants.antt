@@ -1,5 +1,5 @@
 use Rattle.std.proofs.Common.{◌≡◌, take}
-use Rattle.ep_theory.specs.Numbers.{table}
+use Rattle.ep_logic.specs.Numbers.{table}
 use Rattle.ep_theory.specs.Events.{event_at}
 use Rattle.ep_update.specs.Assigned.{atom_with}
 use Rattle.ep_update.proofs.truth.truth_row.Given as goal

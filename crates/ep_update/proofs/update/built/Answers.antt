@@ -1,7 +1,7 @@
 use Rattle.std.proofs.Common.{◌≡◌, ◌∙◌, sym, subst}
 use Rattle.ep_theory.specs.Kripke.{IsState}
 use Rattle.ep_theory.specs.Product.{product_of}
-use Rattle.ep_theory.proofs.ProductLemmas.{product-is_state}
+use Rattle.ep_theory.proofs.CallerLemmas.{product-is_state}
 use Rattle.ep_kripke.specs.States.{IsBounded, state_of}
 use Rattle.ep_update.proofs.ProductLemmas.{state_is, rows_had, product_bounded}
 use Rattle.ep_update.proofs.update.built.Goals as goal
@@ -20,6 +20,6 @@ pub from_rows-requires-clause-bounded : goal.from_rows-requires-clause-bounded
 from_rows-requires-clause-bounded c = subst IsBounded (sym (state c)) (product_bounded c.args.s.now c.args.a.now c.agents.ensures.bounded c.requires.worlds c.requires.links)
 
 pub returns : goal.returns
-returns c = c.from_rows.ensures
+returns c = c.in_ok-made.ensures
     ∙ state_is c.args.s.now c.args.a.now c.agents.result c.atoms.result c.in_ok-truth.truth c.in_ok-relations.relations c.in_ok-designated.designated
     c.agents.ensures.value c.atoms.ensures.value c.in_ok-truth.ensures c.in_ok-relations.ensures c.in_ok-designated.ensures

@@ -2,7 +2,7 @@ use Rattle.std.proofs.Common.{◌∙◌, sym, subst, arith}
 use Rattle.std.proofs.lemmas.Option.{none-some}
 use Rattle.ep_theory.specs.Product.{product_of}
 use Rattle.ep_theory.specs.Bisimulation.{Bisimilar}
-use Rattle.ep_theory.proofs.ProductLemmas.{applicability_alike, products_bisimilar}
+use Rattle.ep_theory.proofs.CallerLemmas.{applicability_alike, products_bisimilar}
 use Rattle.ep_update.proofs.LabelLemmas.{labels_long, labels_count}
 use Rattle.ep_update.proofs.RowLemmas.{are_places}
 use Rattle.ep_update.proofs.update.updated.Goals as goal

@@ -1,7 +1,7 @@
 use Rattle.std.proofs.Common.{subst, sym}
 use Rattle.ep_theory.specs.Events.{event_links}
 use Rattle.ep_theory.specs.Rising.{IsIn}
-use Rattle.ep_theory.proofs.Lists.{IsIn-successors, from_successors}
+use Rattle.ep_theory.proofs.CallerLemmas.{IsIn-successors, from_successors}
 use Rattle.ep_event.proofs.action.Action.linked.Goals as goal
 
 pub returns-clause-value : goal.returns-clause-value

@@ -3,7 +3,7 @@ use Rattle.std.proofs.lemmas.List.{get_or_default, length-map}
 use Rattle.ep_theory.specs.Events.{EventModel, event_links}
 use Rattle.ep_theory.specs.Kripke.{successors}
 use Rattle.ep_event.specs.Built.{event_of}
-use Rattle.ep_event.specs.Relations.{all_pairs}
+use Rattle.ep_theory.specs.Relations.{all_pairs}
 use Rattle.ep_event.proofs.MarkLemmas.{at_place}
 use Rattle.ep_event.proofs.RowLemmas.{targets_at}
 use Rattle.ep_event.proofs.action.Action.targets.Goals as goal

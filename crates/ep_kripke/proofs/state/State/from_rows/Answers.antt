@@ -1,14 +1,9 @@
-use Rattle.std.proofs.Common.{◌∙◌, sym, ap, sum_by, length, ℕ, arith}
-use Rattle.ep_kripke.proofs.RowsLemmas.{sum_by-pairs}
+use Rattle.std.proofs.Common.{subst, sym, length, List, ℕ, Bool}
+use Rattle.std.specs.List.{AllByRecursion}
+use Rattle.ep_kripke.specs.States.{AreRow}
+use Rattle.ep_kripke.proofs.StateLemmas.{rows_fit}
 use Rattle.ep_kripke.proofs.state.State.from_rows.Goals as goal
 
-pub total_of-links-requires : goal.total_of-links-requires
-total_of-links-requires c = rw c.as_slice.ensures (omega (arith, sum_by-pairs c.args.relations, c.requires.bounded.links))
-
-pub invariant_of-result : goal.invariant_of-result
-invariant_of-result c = record {
-  rows = c.requires.rows;
-  valid = c.requires.valid;
-  bounded = c.requires.bounded;
-  count = c.total_of-links.ensures ∙ ap (sum_by (sum_by (length {A = ℕ}))) c.as_slice.ensures ∙ sym (sum_by-pairs c.args.relations);
-}
+pub named_relations-requires-clause-fit : goal.named_relations-requires-clause-fit
+named_relations-requires-clause-fit c =
+    rw (c.as_slice.ensures, c.as_slice-2.ensures) (rows_fit c.args.agents c.args.atoms c.args.truth c.args.relations c.args.designated c.requires.valid c.requires.rows)

@@ -4,7 +4,7 @@ use Rattle.ep_types.proofs.Reaching.{below_reaches}
 use Rattle.ep_types.proofs.types.Types.is_below.Goals as goal
 
 pub returns-clause-value : goal.returns-clause-value
-returns-clause-value c = c.below.ensures ∙ ap (λ types. is_below types c.args.kind.now c.args.above.now) c.self.view_is
+returns-clause-value c = c.is_name_below.ensures ∙ ap (λ types. is_below types c.args.kind.now c.args.above.now) c.self.view_is
 
 pub returns-clause-reaches : goal.returns-clause-reaches
 returns-clause-reaches c =
@@ -12,4 +12,4 @@ returns-clause-reaches c =
     let above = c.args.above.now in
     let At : Typings → Type 0 = λ types. IsTrue (is_below types kind above) ↔ Reaches types kind above in
     let Test : Bool → Type 0 = λ b. IsTrue b ↔ Reaches c.args.self.now kind above in
-    subst Test (sym (c.below.ensures ∙ ap (λ types. is_below types kind above) c.self.view_is)) (subst At c.self.view_is (below_reaches c.self.inside.rows c.self.invariant kind above))
+    subst Test (sym (c.is_name_below.ensures ∙ ap (λ types. is_below types kind above) c.self.view_is)) (subst At c.self.view_is (below_reaches c.self.inside.rows c.self.invariant kind above))

@@ -1,0 +1,11 @@
+pub mod DistinctLemmas
+pub mod ExplicitLemmas
+pub mod FaultLemmas
+pub mod FormLemmas
+pub mod ListLemmas
+pub mod MeetingLemmas
+pub mod ObjectiveLemmas
+pub mod SeeingLemmas
+pub mod StateLemmas
+pub mod TypingLemmas
+pub mod ValuationLemmas

@@ -1,0 +1,10 @@
+pub mod Explicit
+pub mod Faults
+pub mod Initial
+pub mod Lawful
+pub mod Made
+pub mod Meeting
+pub mod Parts
+pub mod Seeing
+pub mod Typing
+pub mod Valuations

@@ -1,0 +1,10 @@
+use Rattle.std.proofs.Common.{◌≡◌, ℕ, ◌<◌, [], length, get_or}
+use Rattle.std.specs.List.{list_all}
+use Rattle.ep_logic.specs.Rows.{value_at}
+use Rattle.ep_kripke.proofs.row_set.RowSet.all_within.Given as goal
+
+abbrev pub invariant-loop-i : goal.invariant-loop-i
+invariant-loop-i l = record {
+  long : length l.row ≡ length l.self;
+  told : (k : ℕ) → k < l.i → value_at l.row k ≡ list_all (value_at l.set) (get_or l.self k []);
+}

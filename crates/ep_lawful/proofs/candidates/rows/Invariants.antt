@@ -1,6 +1,0 @@
-use Rattle.std.proofs.Common.{◌≡◌, map, take}
-use Rattle.ep_lawful.specs.Valuations.{filled}
-use Rattle.ep_lawful.proofs.candidates.rows.Given as goal
-
-abbrev pub invariant-loop-valuation : goal.invariant-loop-valuation
-invariant-loop-valuation l = l.rows ≡ map (filled l.varied l.facts) (take l.valuation-index l.valuation-items)

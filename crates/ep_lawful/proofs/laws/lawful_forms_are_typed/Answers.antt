@@ -1,5 +1,0 @@
-use Rattle.ep_lawful.proofs.TypingLemmas.{typed}
-use Rattle.ep_lawful.proofs.laws.lawful_forms_are_typed.Goals as goal
-
-pub returns : goal.returns
-returns c = typed

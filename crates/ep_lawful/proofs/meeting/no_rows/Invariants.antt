@@ -1,6 +1,0 @@
-use Rattle.std.proofs.Common.{◌≡◌, []}
-use Rattle.ep_theory.specs.Numbers.{table}
-use Rattle.ep_lawful.proofs.meeting.no_rows.Given as goal
-
-abbrev pub invariant-loop-world : goal.invariant-loop-world
-invariant-loop-world l = l.rows ≡ table (λ _. []) l._world

@@ -1,0 +1,10 @@
+use Rattle.std.proofs.Common.{◌≡◌, ℕ, ◌<◌, ◌≤◌, ◌-◌, ◌^◌, length, get_or}
+use Rattle.ep_logic.proofs.words.flip_words.Given as goal
+
+abbrev pub invariant-loop-i : goal.invariant-loop-i
+invariant-loop-i l = record {
+  long : length l.a ≡ length l.initial.a;
+  done : (k : ℕ) → k < l.i → get_or l.a k 0 ≡ 18446744073709551615 - get_or l.initial.a k 0;
+  fits : (k : ℕ) → get_or l.initial.a k 0 < 2 ^ 64;
+  left : (k : ℕ) → l.i ≤ k → get_or l.a k 0 ≡ get_or l.initial.a k 0;
+}

@@ -1,6 +1,0 @@
-use Rattle.std.proofs.Common.{◌≡◌, true}
-use Rattle.ep_theory.specs.Numbers.{pairs_within}
-use Rattle.ep_parts.proofs.links.all_pairs.Given as goal
-
-abbrev pub invariant-loop-from : goal.invariant-loop-from
-invariant-loop-from l = l.pairs ≡ pairs_within (λ _ _. true) l.count l.from

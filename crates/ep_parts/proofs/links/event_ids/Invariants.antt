@@ -1,7 +1,0 @@
-use Rattle.std.proofs.Common.{◌≡◌, map, take}
-use Rattle.ep_parts.specs.Links.{place_of}
-use Rattle.ep_parts.specs.Made.{event}
-use Rattle.ep_parts.proofs.links.event_ids.Given as goal
-
-abbrev pub invariant-loop-name : goal.invariant-loop-name
-invariant-loop-name l = l.ids ≡ map (λ x. event (place_of l.names x)) (take l.name-index l.designated)

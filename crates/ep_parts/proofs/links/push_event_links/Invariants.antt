@@ -1,6 +1,0 @@
-use Rattle.std.proofs.Common.{◌≡◌, ◌++◌, map, take}
-use Rattle.ep_parts.specs.Made.{event_link}
-use Rattle.ep_parts.proofs.links.push_event_links.Given as goal
-
-abbrev pub invariant-loop-from : goal.invariant-loop-from
-invariant-loop-from l = l.links ≡ l.initial.links ++ map (event_link l.agent.n) (take l.from-index l.pairs)

@@ -1,6 +1,0 @@
-use Rattle.std.proofs.Common.{◌≡◌}
-use Rattle.ep_theory.specs.Numbers.{table}
-use Rattle.ep_parts.proofs.links.same_pairs.Given as goal
-
-abbrev pub invariant-loop-n : goal.invariant-loop-n
-invariant-loop-n l = l.pairs ≡ table (λ n. (n, n)) l.n

@@ -1,6 +1,0 @@
-use Rattle.std.proofs.Common.{◌≡◌, take}
-use Rattle.ep_types.specs.Tasks.{world_names}
-use Rattle.ep_parts.proofs.links.world_table.Given as goal
-
-abbrev pub invariant-loop-world : goal.invariant-loop-world
-invariant-loop-world l = l.names ≡ world_names (take l.world-index l.worlds)

@@ -1,8 +1,0 @@
-use Rattle.std.proofs.Common.{◌≡◌, take, map}
-use Rattle.ep_types.specs.Tasks.{declarations}
-use Rattle.ep_universe.specs.Objects.{agents_of}
-use Rattle.ep_parts.specs.PrintedNames.{object_name}
-use Rattle.ep_parts.proofs.names.agent_names.Given as goal
-
-abbrev pub invariant-loop-object : goal.invariant-loop-object
-invariant-loop-object l = l.agents ≡ map (object_name (declarations l.typed)) (take l.object-index (agents_of (declarations l.typed)))

@@ -1,5 +1,0 @@
-use Rattle.ep_problem.proofs.Runs.{after_from-snoc}
-use Rattle.ep_problem.proofs.laws.one_more_action.Goals as goal
-
-pub returns : goal.returns
-returns c = λ T p a. after_from-snoc T p T.initial a

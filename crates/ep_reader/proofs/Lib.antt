@@ -1,0 +1,14 @@
+pub mod Truth
+pub mod Sources
+pub mod MarkLists
+pub mod Laws
+pub mod Readers
+pub mod Loops
+pub mod ListLaws
+pub mod EnclosedLaws
+pub mod OptionalLaws
+pub mod CountLaws
+pub mod Whole
+pub mod Readable
+pub mod TextLaws
+pub mod CallerLemmas

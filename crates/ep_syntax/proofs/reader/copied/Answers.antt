@@ -1,5 +1,0 @@
-use Rattle.ep_syntax.proofs.Sources.{name_ascii}
-use Rattle.ep_syntax.proofs.reader.copied.Goals as goal
-
-pub from_vec-requires : goal.from_vec-requires
-from_vec-requires c = rw c.in_ok-bytes.ensures.items (name_ascii _ c.requires)

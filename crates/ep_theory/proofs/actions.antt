@@ -1,0 +1,6 @@
+pub mod ProductLemmas
+pub mod ProductLaws
+pub mod FourLemmas
+pub mod ProductUnique
+pub mod EquivalenceLemmas
+pub mod ClassLemmas

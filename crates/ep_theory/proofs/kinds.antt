@@ -1,0 +1,11 @@
+pub mod Alike
+pub mod Levels
+pub mod Settled
+pub mod Points
+pub mod FromKinds
+pub mod Ranked
+pub mod Places
+pub mod Later
+pub mod Rounds
+pub mod Halving
+pub mod Dense

@@ -1,0 +1,9 @@
+pub mod Orders
+pub mod Lists
+pub mod Diagonal
+pub mod Counting
+pub mod Filters
+pub mod Bridges
+pub mod Bools
+pub mod NumbersLemmas
+pub mod RowPairs

@@ -1,0 +1,10 @@
+pub mod Unique
+pub mod Equivalence
+pub mod Images
+pub mod Reach
+pub mod Exists
+pub mod Laws
+pub mod Listed
+pub mod Canonical
+pub mod Examples
+pub mod ReachedByWalks

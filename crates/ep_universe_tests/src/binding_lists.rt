@@ -121,12 +121,15 @@ const COUNTS: [(&'static [(u32, u32)], u64, u64); 13] = [
 ];
 
 // The number of distinct bindings, where the sets are laminar.
-fn count_distinct(rt: &impl Abort, params: &[List<u32>]) -> u64
+fn count_distinct(params: &[List<u32>]) -> Option<u64>
     requires few { length params.now ≤ MOST_PARAMETERS }
     requires objects { All IsObjects params.now }
 {
-    assert!(rt; is_laminar(params));
-    distinct_count(params)
+    if is_laminar(params) {
+        Some(distinct_count(params))
+    } else {
+        None
+    }
 }
 
 #[test]
@@ -136,7 +139,7 @@ fn exact_numbers_of_bindings(rt: HostRuntime) -> Result<(), Fail> {
         let params = parameters(&rt, alloc, sets)?;
         assert!(rt; params.as_slice().len() <= 6);
         assert_eq!(rt; binding_count(params.as_slice()), all);
-        assert_eq!(rt; count_distinct(&rt, params.as_slice()), distinct);
+        assert_eq!(rt; count_distinct(params.as_slice()), Some(distinct));
     }
     assert!(rt; !is_laminar(parameters(&rt, alloc, &[(0, 2), (4, 1), (1, 2)])?.as_slice()));
     Ok(())

@@ -58,9 +58,12 @@ cause_text (cause.AtomTwice name) = codes "atom set twice: " ++ name
 cause_text (cause.TooManyVaried count) = codes "too many varied atoms: " ++ decimal count
 cause_text (cause.TooManyWorlds count) = codes "too many worlds: " ++ decimal count
 cause_text cause.NoDesignated = codes "no designated world"
+cause_text (cause.NotS5Initial agent) = codes "not s5: initial state, agent " ++ agent
+cause_text (cause.NotS5Action action agent) = codes "not s5: " ++ action ++ codes ", agent " ++ agent
 cause_text cause.OtherTask = codes "other task"
 cause_text (cause.UnknownAction line) = codes "unknown action at line " ++ decimal line
 cause_text cause.WrongCount = codes "wrong count"
+cause_text cause.WrongCost = codes "wrong cost"
 
 -- ---- answers
 

@@ -85,11 +85,16 @@ pub enum Cause {
     TooManyVaried { count: u64 },
     TooManyWorlds { count: u64 },
     NoDesignated,
+    /// An agent's relation in the initial state is to be an equivalence, and is none.
+    NotS5Initial { agent: Text },
+    /// The same of an action, by its printed name.
+    NotS5Action { action: Text, agent: Text },
     /// The plan is one of another task.
     OtherTask,
     /// The line of the first call that names no action.
     UnknownAction { line: u32 },
     WrongCount,
+    WrongCost,
 }
 
 impl fmt::Display for Cause {
@@ -116,9 +121,16 @@ impl fmt::Display for Cause {
             Cause::TooManyVaried { count } => write!(f, "too many varied atoms: {count}"),
             Cause::TooManyWorlds { count } => write!(f, "too many worlds: {count}"),
             Cause::NoDesignated => f.write_str("no designated world"),
+            Cause::NotS5Initial { agent } => {
+                write!(f, "not s5: initial state, agent {}", Shown(agent))
+            }
+            Cause::NotS5Action { action, agent } => {
+                write!(f, "not s5: {}, agent {}", Shown(action), Shown(agent))
+            }
             Cause::OtherTask => f.write_str("other task"),
             Cause::UnknownAction { line } => write!(f, "unknown action at line {line}"),
             Cause::WrongCount => f.write_str("wrong count"),
+            Cause::WrongCost => f.write_str("wrong cost"),
         }
     }
 }

@@ -1,4 +1,4 @@
-// The bounds of a search and its mode.
+// The bounds of a search, its mode, and what plans are measured by.
 
 /// The most actions that a plan may be bounded to.
 pub const MOST_ACTIONS: u32 = 1000;
@@ -8,6 +8,19 @@ pub const MOST_STATES: u32 = 16_384;
 
 /// The most worlds that a contraction may be bounded to.
 pub const MOST_WORLDS: u32 = 256;
+
+/// The greatest cost of an action. The least is 1.
+pub const MOST_COST: u32 = 100;
+
+/// The most actions of a plan that is printed or read.
+pub const MOST_PLAN_ACTIONS: u32 = 262_144;
+
+/// What a plan is measured by: its number of actions, or the sum of their costs.
+#[derive(Clone, Copy, Debug, PartialEq, Eq)]
+pub enum Measure {
+    Length,
+    Cost,
+}
 
 /// How far a search goes: `depth` is the most actions of a plan, `states` the most states that are stored, at least 1,
 /// `worlds` the most worlds of a contracted state.

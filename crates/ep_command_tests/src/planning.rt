@@ -1,7 +1,9 @@
 // What `plan` and `trial` answer.
 
 use crate::memory::{is_told, library, sink, strings, tells_of_task};
-use crate::tasks::{COIN, COIN0, FAR, KINDS, LETTER, LONE, LOOK, MSG, PAIR, SWAP, TWO, WAIT, WAYS};
+use crate::tasks::{
+    COIN, COIN0, FAR, KINDS, LETTER, LONE, LOOK, MSG, PAIR, SWAP, TOLL, TWO, WAIT, WAYS,
+};
 use ep_cli::{Status, run};
 use ep_guide::{Guide, View};
 use ep_io::{MemoryLibrary, MemorySink};
@@ -92,7 +94,7 @@ type Row = (&'static [&'static str], &'static str, u8, &'static str);
 
 const NONE: &str = "none to 0\n";
 
-const PLANNED: [Row; 17] = [
+const PLANNED: [Row; 18] = [
     (&["plan", "t", "--depth", "0"], COIN0, 1, NONE),
     (
         &["plan", "t"],
@@ -179,6 +181,13 @@ const PLANNED: [Row; 17] = [
         PAIR,
         0,
         "plan 1\ntask pair\n# shortest\nactions 1\nswap(ann,bob)\nend\n",
+    ),
+    // The fewest actions, whatever they cost.
+    (
+        &["plan", "t"],
+        TOLL,
+        0,
+        "plan 1\ntask toll\n# shortest\nactions 1\nfly\nend\n",
     ),
 ];
 

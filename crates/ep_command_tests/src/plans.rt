@@ -1,7 +1,7 @@
 // What the commands with plans answer.
 
 use crate::memory::tells_of_plans;
-use crate::tasks::{COIN, FAR, LETTER, LONE, MSG, SWAP, TWO, WAIT};
+use crate::tasks::{COIN, FAR, LETTER, LONE, MSG, SWAP, TOLL, TWO, WAIT};
 use std::alloc::Global;
 use std::process::Abort;
 use std::test::Fail;
@@ -38,7 +38,9 @@ const THREE: &str = "plan 1\ntask far\nactions 1\nthree\nend\n";
 
 const FOUR: &str = "plan 1\ntask far\nactions 1\nfour\nend\n";
 
-const VALIDATED: [Row; 8] = [
+const RIDES: &str = "plan 2\ntask toll\n# cheapest\ncost 7\nactions 2\nwalk\nride\nend\n";
+
+const VALIDATED: [Row; 12] = [
     (&["validate", "t", "a"], TWO, SAY, 1, "no: step 1\n"),
     (&["validate", "t", "a"], SWAP, SWAPS, 0, "yes\n"),
     (&["validate", "t", "-"], SWAP, "", 1, "no: goal\n"),
@@ -76,6 +78,28 @@ const VALIDATED: [Row; 8] = [
         SAY,
         3,
         "refused: plan: no such file\n",
+    ),
+    (&["validate", "t", "a"], TOLL, RIDES, 0, "yes\n"),
+    (
+        &["validate", "t", "a"],
+        TOLL,
+        "plan 2\ntask toll\ncost 8\nactions 2\nwalk\nride\nend\n",
+        3,
+        "refused: plan: wrong cost\n",
+    ),
+    (
+        &["validate", "t", "a"],
+        TOLL,
+        "plan 2\ntask toll\ncost 8\nactions 3\nwalk\nride\nend\n",
+        3,
+        "refused: plan: wrong count\n",
+    ),
+    (
+        &["validate", "t", "a"],
+        TOLL,
+        "plan 1\ntask toll\n# cheapest\ncost 7\nactions 2\nwalk\nride\nend\n",
+        3,
+        "refused: plan: syntax at token 4, line 4\n",
     ),
 ];
 

@@ -155,3 +155,13 @@ init { world o { has(ann) } designated { o } }
 action swap(a : agent, b : agent) distinct { assign when true { has(a) := has(b); has(b) := has(a); } }
 goal has(bob);
 ";
+
+pub const TOLL: &str = "task toll;
+objects { ann : agent; }
+fluents { mid; done; }
+init { world o { } designated { o } }
+action fly cost 10 { assign when true { done := true; } }
+action walk cost 3 { assign when not mid { mid := true; } }
+action ride cost 4 { assign when mid { done := true; } }
+goal done;
+";

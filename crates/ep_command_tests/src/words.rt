@@ -19,13 +19,14 @@ fn serves(rt: &impl Abort, alloc: Global, rows: &[Row]) -> Result<(), Fail> {
 
 const USAGE: &str = "usage: plan|validate|eval|state|contract|same|check|trial\n";
 
-const WORDS: [Row; 10] = [
+const WORDS: [Row; 11] = [
     (&[], COIN0, 2, USAGE),
     (&["fly"], COIN0, 2, USAGE),
     (&["plan", ""], COIN0, 2, USAGE),
     (&["plan", "-x"], COIN0, 2, USAGE),
     (&["plan", "t", "--depth", "08"], COIN0, 2, USAGE),
     (&["plan", "t", "--depth", "1001"], COIN0, 2, USAGE),
+    (&["plan", "t", "--cost", "10"], COIN0, 2, USAGE),
     (&["trial", "9"], COIN0, 2, USAGE),
     (
         &["plan", "t", "--guide", "worlds"],
@@ -63,8 +64,30 @@ links all all ;
 goal knows ann heads ;
 ";
 
-const CHECKED: [Row; 3] = [
+const PRICED: &str =
+    "task t; frames s5; objects { ann : agent; } fluents { p; } init { world o { } designated { o } }
+    action go cost 10 { announce true; } action say(a : agent) distinct cost 2 { announce p; } goal true;";
+
+const PRICED_CHECKED: &str = "# agents 1 objects 1 atoms 1 actions 2 worlds 1
+task t ;
+frames s5 ;
+objects { ann : agent ;
+}
+fluents { p ;
+}
+init {
+world o { }
+designated { o } }
+action go cost 10 { announce true ;
+}
+action say ( a : agent ) distinct cost 2 { announce p ;
+}
+goal true ;
+";
+
+const CHECKED: [Row; 4] = [
     (&["check", "t"], COIN0, 0, COIN0_CHECKED),
+    (&["check", "t"], PRICED, 0, PRICED_CHECKED),
     (
         &["check", "t"],
         "task t; objects { ann, bob : agent; } fluents { has(agent); } init { world o { } designated { o } }

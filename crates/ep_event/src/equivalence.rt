@@ -5,7 +5,7 @@ ghost use Rattle.std.specs.List.{AllByRecursion};
 ghost use Rattle.ep_theory.specs.Rising.{IsIn};
 ghost use Rattle.ep_theory.specs.Kripke.{successors};
 ghost use Rattle.ep_theory.specs.Events.{IsAction, event_links};
-ghost use Rattle.ep_theory.specs.Equivalences.{AreClasses, IsS5Action};
+ghost use Rattle.ep_theory.specs.Equivalences.{IsEquivalence, IsS5Action};
 
 use crate::action::Action;
 use ep_logic::{AgentId, EventId};
@@ -45,26 +45,28 @@ fn is_class(action: &Action, a: AgentId, e: EventId) -> bool
     action.linked(a, e, e) && lead_to(action, a, targets, targets)
 }
 
-fn are_classes(action: &Action, a: AgentId) -> bool
-    requires { a.n < length action.now.links }
-    ensures { IsTrue result ↔ AreClasses (length action.now.events) (event_links action.now a.n) }
-{
-    for n in 0..action.events() {
-        if !is_class(action, a, EventId { n }) {
-            return false;
-        }
-    }
-    true
-}
-
 impl Action {
+    /// Whether an agent's relation is an equivalence. It takes no memory.
+    pub fn is_equivalence(&self, a: AgentId) -> bool
+        requires { a.n < length self.now.links }
+        ensures value { IsTrue result ↔ IsEquivalence (length self.now.events) (event_links self.now a.n) }
+        ensures valid { IsAction self.now }
+    {
+        for n in 0..self.events() {
+            if !is_class(self, a, EventId { n }) {
+                return false;
+            }
+        }
+        true
+    }
+
     /// Whether the relation of each agent is an equivalence. It takes no memory.
     pub fn is_s5(&self) -> bool
         ensures value { IsTrue result ↔ IsS5Action self.now }
         ensures valid { IsAction self.now }
     {
         for n in 0..self.agents() {
-            if !are_classes(self, AgentId { n }) {
+            if !self.is_equivalence(AgentId { n }) {
                 return false;
             }
         }

@@ -1,4 +1,5 @@
 pub mod FitLemmas
+pub mod FrameLemmas
 pub mod ReadLemmas
 pub mod TaskLemmas
 pub mod TextLemmas

@@ -1,5 +1,5 @@
 -- How many formulas a tree has that reads so many tokens.
-use Rattle.std.proofs.Common.{◌≡◌, ℕ, ◌+◌, ◌≤◌, List, [], ◌∷◌, ◌++◌, length, map, All, arith}
+use Rattle.std.proofs.Common.{ℕ, ◌≤◌, List, [], ◌∷◌, ◌++◌, length, map, All, arith}
 use Rattle.std.specs.List.{flat_map}
 use Rattle.std.proofs.lemmas.List.{length-append, length-map}
 use Rattle.std.proofs.lemmas.List.Elements.{All-nil, All-cons, All-append}
@@ -66,10 +66,11 @@ few_in_body (Events events designated links) =
 few_in_schema : (d : Declared) (s : SchemaTree) → length (schema_formulas d s) ≤ length (spell.schema s)
 few_in_schema d s =
     let one = length-map (body_formulas s.body) (written (length (schema_bindings d s))) in
-    let long = length-append (spell.signature s.params s.distinct) (spell.braced (spell.body s.body)) in
+    let long = length-append (spell.signature s.params s.distinct) (spell.cost s.cost ++ spell.braced (spell.body s.body)) in
+    let behind = length-append (spell.cost s.cost) (spell.braced (spell.body s.body)) in
     let inner = braced (spell.body s.body) in
     let each = few_in_body s.body in
-    omega (arith, one, long, inner, each)
+    omega (arith, one, long, behind, inner, each)
 
 few_in_init : (i : InitTree) → length (init_formulas i) ≤ length (spell.init i)
 few_in_init (Explicit worlds designated links) = omega arith

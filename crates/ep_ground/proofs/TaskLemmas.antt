@@ -1,15 +1,20 @@
 -- What joins the parts of a ground task.
-use Rattle.std.proofs.Common.{IfErr, OnOk, IsErrAnd, ◌≡◌, List, [], ◌∷◌, Option, Some, None, option_map, Result, Ok, Err, length, refl, ap, sym, ◌∙◌, subst, inl, inr, ⊎_elim, arith}
+use Rattle.std.proofs.Common.{IfErr, OnOk, IsErrAnd, IsTrue, ◌≡◌, cond, List, [], ◌∷◌, Option, Some, None, option_map, Result, Ok, Err, length, refl, ap, sym, ◌∙◌, subst, inl, inr, ⊎_elim, arith}
+use Rattle.std.specs.List.{AllByRecursion}
 use Rattle.std.proofs.lemmas.List.{length-append, length-map}
 use Rattle.ep_base.specs.Refusals.{Reports, first_some}
 use Rattle.ep_base.proofs.CallerLemmas.{reports_whole}
-use Rattle.ep_theory.specs.PlanningTask.{PlanningTask}
+use Rattle.ep_theory.specs.Events.{EventModel}
+use Rattle.ep_theory.specs.Fits.{ActionFits}
+use Rattle.ep_theory.specs.Kripke.{IsState}
+use Rattle.ep_theory.specs.PlanningTask.{PlanningTask, IsS5Task}
+use Rattle.ep_theory.proofs.CallerLemmas.{All-from_each, at_All}
 use Rattle.ep_tree.specs.declared.tree.InitTree.{InitTree}
 use Rattle.ep_tree.specs.declared.tree.InitTree.TheVariants.{Explicit, Lawful}
 use Rattle.ep_tree.specs.declared.tree.SchemaTree.{SchemaTree}
 use Rattle.ep_tree.specs.declared.tree.TaskTree.{TaskTree}
 use Rattle.ep_types.specs.Names.{Text}
-use Rattle.ep_types.specs.Tasks.{declarations}
+use Rattle.ep_types.specs.Tasks.{HasNoFault, declarations}
 use Rattle.ep_types.specs.declared.scope.Declared.{Declared}
 use Rattle.ep_universe.specs.Atoms.{atoms_of}
 use Rattle.ep_universe.specs.Links.{agent_count}
@@ -19,6 +24,9 @@ use Rattle.ep_universe.specs.Universe.{HasFewNames, IsUniverse, NamedTask}
 use Rattle.ep_initial.specs.Initial.{initial_of}
 use Rattle.ep_schema.specs.ActionNames.{action_name, schema_names, action_names}
 use Rattle.ep_schema.specs.Actions.{schema_bindings, action_at, schema_actions, actions_of}
+use Rattle.ep_ground.proofs.FitLemmas.{all_fit}
+use Rattle.ep_ground.proofs.FrameLemmas.{none_unequal}
+use Rattle.ep_ground.specs.Frames.{first_unequal, not_s5}
 use Rattle.ep_ground.specs.Grounding.{IsNamed, problem_from, task_from, task_of}
 use Rattle.ep_ground.specs.Task.{GroundTask}
 use Rattle.ep_ground.specs.declared.fault.GroundError.{GroundError}
@@ -85,8 +93,29 @@ same_task u known actions problem e f =
     (λ j. record { tree = u.tree; agents = agent_names u.names; atoms = atom_names u.names; actions = e j; problem = f j })
     ∙ ap (λ d. task_from d u.tree) known.declared
 
-pub named_task : (u : NamedTask) (known : IsUniverse u) → IsNamed (task_of u.tree)
-named_task u known =
+-- the actions have as many relations as the task has agents
+action_agents : (t : TaskTree) → HasNoFault t → AllByRecursion (λ (A : EventModel). length (agent_names (declarations t)) ≡ length A.links) (actions_of (declarations t) t.schemas)
+action_agents t fine =
+    let d = declarations t in
+    let S = initial_of d t.init in
+    let actions = actions_of d t.schemas in
+    let fit = (all_fit t fine d refl S (initial_agents d t.init) (initial_atoms d t.init)).0 in
+    All-from_each (λ (A : EventModel). length (agent_names d) ≡ length A.links) actions
+    (λ A i. as_many_agents d ∙ sym (initial_agents d t.init) ∙ sym (at_All (ActionFits S) A actions fit i).agents)
+
+-- where relations are to be equivalences and none is told that is not one
+frames_hold : (t : TaskTree) → HasNoFault t → IsState (initial_of (declarations t) t.init) → not_s5 (declarations t) t ≡ None → IsTrue t.s5 → IsS5Task (problem_from (declarations t) t)
+frames_hold t fine state none s5 =
+    let d = declarations t in
+    let S = initial_of d t.init in
+    let told = first_unequal (agent_names d) (action_names d t.schemas) S (actions_of d t.schemas) in
+    let h : told ≡ None = ap (λ b. cond b told None) (sym s5) ∙ none in
+    let all = none_unequal (agent_names d) (action_names d t.schemas) S (actions_of d t.schemas) (as_many_agents d ∙ sym (initial_agents d t.init) ∙ sym state.relations) (as_many_actions d t.schemas)
+    (action_agents t fine) h in
+    record { initial = all.0; actions = all.1 }
+
+pub named_task : (u : NamedTask) (known : IsUniverse u) → not_s5 u.names u.tree ≡ None → IsState (initial_of u.names u.tree.init) → IsNamed (task_of u.tree)
+named_task u known frames state =
     let t = u.tree in
     let d = declarations t in
     record {
@@ -97,4 +126,5 @@ named_task u known =
       declared_atoms = as_many_atoms d;
       whole = record { task = refl; typed = known.typed; read = known.read };
       few = subst HasFewNames known.declared known.few;
+      frames = frames_hold t known.typed (subst (λ d. IsState (initial_of d t.init)) known.declared state) (subst (λ d. not_s5 d t ≡ None) known.declared frames);
     }

@@ -17,7 +17,7 @@ use Rattle.ep_tree.specs.declared.tree.SchemaTree.{SchemaTree}
 use Rattle.ep_tree.proofs.CallerLemmas.{shallow-left, shallow-right}
 use Rattle.ep_types.specs.Faults.{first_fault}
 use Rattle.ep_types.specs.Places.{closed, objective, both}
-use Rattle.ep_types.specs.Tasks.{declarations, init_uses, given_uses, law_uses, sees_uses}
+use Rattle.ep_types.specs.Tasks.{init_uses, given_uses, law_uses, sees_uses}
 use Rattle.ep_types.specs.Uses.{formula_uses}
 use Rattle.ep_types.specs.declared.scope.Declared.{Declared}
 use Rattle.ep_universe.specs.Counts.{ground_count}

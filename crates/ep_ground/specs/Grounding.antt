@@ -1,7 +1,7 @@
 -- The ground task of a typed task, and the first fault of one that has none.
-use Rattle.std.specs.Prelude.{◌≡◌, List, [], ◌∷◌, Option, option_map, length}
+use Rattle.std.specs.Prelude.{◌≡◌, IsTrue, List, [], ◌∷◌, Option, option_map, length}
 use Rattle.ep_base.specs.Refusals.{first_some}
-use Rattle.ep_theory.specs.PlanningTask.{PlanningTask}
+use Rattle.ep_theory.specs.PlanningTask.{PlanningTask, IsS5Task}
 use Rattle.ep_tree.specs.declared.tree.TaskTree.{TaskTree}
 use Rattle.ep_tree.specs.Grammar.{IsRead}
 use Rattle.ep_types.specs.Tasks.{HasNoFault, declarations}
@@ -17,11 +17,12 @@ use Rattle.ep_initial.specs.Initial.{init_fault, initial_of}
 use Rattle.ep_initial.specs.declared.fault.InitialError.{InitialError}
 use Rattle.ep_initial.specs.declared.fault.InitialError.TheVariants as initial
 use Rattle.ep_schema.specs.ActionNames.{action_names}
-use Rattle.ep_schema.specs.Actions.{actions_of}
+use Rattle.ep_schema.specs.Actions.{actions_of, costs_of}
 use Rattle.ep_schema.specs.Faults.{atom_twice}
 use Rattle.ep_schema.specs.declared.fault.SchemaError.{SchemaError}
 use Rattle.ep_schema.specs.declared.fault.SchemaError.TheVariants as schema
 use Rattle.ep_ground.specs.Faults.{limit_fault}
+use Rattle.ep_ground.specs.Frames.{not_s5}
 use Rattle.ep_ground.specs.Task.{GroundTask}
 use Rattle.ep_ground.specs.declared.fault.GroundError.{GroundError}
 use Rattle.ep_ground.specs.declared.fault.GroundError.TheVariants as fault
@@ -32,6 +33,7 @@ abbrev pub problem_from : Declared → TaskTree → PlanningTask
 problem_from d t = record {
   initial = initial_of d t.init;
   actions = actions_of d t.schemas;
+  costs = costs_of d t.schemas;
   goal = ground_of d t.goal [];
 }
 
@@ -54,7 +56,8 @@ pub record IsWhole (g : GroundTask) : Type 0 where
   pub typed : HasNoFault g.tree
   pub read : IsRead g.tree
 
--- each agent, atom and action of the problem has a name, the agents and atoms are those of the tree, and few enough
+-- each agent, atom and action of the problem has a name, the agents and atoms are those of the tree, and few enough, and the
+-- relations are equivalences where the tree says so
 pub record IsNamed (g : GroundTask) : Type 0 where
   pub agents : length g.agents ≡ g.problem.initial.agents
   pub atoms : length g.atoms ≡ g.problem.initial.atoms
@@ -63,6 +66,7 @@ pub record IsNamed (g : GroundTask) : Type 0 where
   pub declared_atoms : length g.atoms ≡ length (atoms_of (declarations g.tree))
   pub whole : IsWhole g
   pub few : HasFewNames (declarations g.tree)
+  pub frames : IsTrue g.tree.s5 → IsS5Task g.problem
 
 -- ---- the first fault
 
@@ -84,12 +88,16 @@ of_initial (initial.TooManyWorlds count) = fault.TooManyWorlds count
 of_initial initial.NoDesignated = fault.NoDesignated
 of_initial initial.OutOfMemory = fault.OutOfMemory
 
--- the rows behind the limits: an action with an atom set twice, and then the initial state's
-abbrev pub behind_limits : Declared → TaskTree → List (Option GroundError)
-behind_limits d t =
+-- the rows of the parts: an action with an atom set twice, and then the initial state's
+abbrev pub part_rows : Declared → TaskTree → List (Option GroundError)
+part_rows d t =
     option_map of_schema (atom_twice (action_names d t.schemas) (actions_of d t.schemas))
     ∷ option_map of_initial (init_fault d t.init)
     ∷ []
+
+-- the rows behind the limits: those of the parts, and then relations that are no equivalences where they are to be
+abbrev pub behind_limits : Declared → TaskTree → List (Option GroundError)
+behind_limits d t = first_some (part_rows d t) ∷ not_s5 d t ∷ []
 
 -- the rows behind those of the names
 abbrev pub behind_names : Declared → TaskTree → List (Option GroundError)

@@ -1,5 +1,6 @@
 pub mod Faults
 pub mod FormulaFaults
+pub mod Frames
 pub mod Grounding
 pub mod StateText
 pub mod Task

@@ -6,6 +6,14 @@ use ep_schema::SchemaError;
 use ep_universe::UniverseError;
 use std::{fmt, str};
 
+/// Where a relation is no equivalence.
+#[derive(Debug, Drop)]
+pub enum S5Place {
+    Initial,
+    /// A ground action, by its printed name.
+    Action { name: Text },
+}
+
 /// The first in this order comes, with its exact count. `schema` counts the schemas from 0, and `token` is the first one of
 /// the formula.
 #[derive(Debug, Drop)]
@@ -23,6 +31,9 @@ pub enum GroundError {
     TooManyVaried { count: u64 },
     TooManyWorlds { count: u64 },
     NoDesignated,
+    /// The relations are to be equivalences, and that of this agent is none: the first, the initial state before the
+    /// actions in order, and in each the first agent.
+    NotS5 { place: S5Place, agent: Text },
     OutOfMemory,
 }
 
@@ -45,6 +56,7 @@ impl fmt::Display for GroundError {
             GroundError::TooManyVaried { count } => write!(f, "too many varied atoms: {count}"),
             GroundError::TooManyWorlds { count } => write!(f, "too many worlds: {count}"),
             GroundError::NoDesignated => write!(f, "no designated world"),
+            GroundError::NotS5 { place, agent } => write_not_s5(f, place, agent),
             GroundError::OutOfMemory => write!(f, "out of memory"),
         }
     }
@@ -54,6 +66,23 @@ fn write_twice<W: fmt::Write>(f: &mut fmt::Formatter<W>, name: &Text) -> fmt::Re
     match str::from_utf8(name.as_slice()) {
         Ok(name) => write!(f, "atom set twice: {name}"),
         Err(_) => Err(fmt::Error),
+    }
+}
+
+fn write_not_s5<W: fmt::Write>(
+    f: &mut fmt::Formatter<W>,
+    place: &S5Place,
+    agent: &Text,
+) -> fmt::Result {
+    let Ok(agent) = str::from_utf8(agent.as_slice()) else {
+        return Err(fmt::Error);
+    };
+    match place {
+        S5Place::Initial => write!(f, "not s5: initial state, agent {agent}"),
+        S5Place::Action { name } => match str::from_utf8(name.as_slice()) {
+            Ok(name) => write!(f, "not s5: {name}, agent {agent}"),
+            Err(_) => Err(fmt::Error),
+        },
     }
 }
 

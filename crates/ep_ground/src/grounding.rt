@@ -2,10 +2,10 @@
 
 ghost use Rattle.std.specs.Prelude.{◌≡◌, IfErr, IfOk, None, OnOk};
 ghost use Rattle.ep_base.specs.Refusals.{Reports, first_some};
-ghost use Rattle.ep_tree.specs.Grammar.{IsRead};
 ghost use Rattle.ep_types.specs.Tasks.{declarations};
 ghost use Rattle.ep_universe.specs.Universe.{IsUniverse};
 ghost use Rattle.ep_schema.specs.ActionNames.{action_names};
+ghost use Rattle.ep_ground.specs.Frames.{not_s5};
 ghost use Rattle.ep_ground.specs.Grounding.{behind_names, fault_of, problem_from, task_of};
 
 use crate::fault::GroundError;
@@ -18,6 +18,7 @@ use std::alloc::Global;
 fn checked_parts(alloc: Global, universe: &Universe) -> Result<Parts, GroundError>
     ensures actions { IfOk result (λ parts. parts.actions ≡ action_names universe.now.names universe.now.tree.schemas) }
     ensures problem { IfOk result (λ parts. parts.problem ≡ problem_from universe.now.names universe.now.tree) }
+    ensures frames { OnOk result (not_s5 universe.now.names universe.now.tree ≡ None) }
     ensures known { IsUniverse universe.now }
     ensures sound { OnOk result (first_some (behind_names universe.now.names universe.now.tree) ≡ None) }
     ensures err { IfErr result (Reports GroundError.OutOfMemory (first_some (behind_names universe.now.names universe.now.tree))) }
@@ -48,7 +49,6 @@ fn ground_universe(alloc: Global, universe: Universe) -> Result<Task, GroundErro
 /// The ground task of a typed task, or the first row of the table of ground faults that
 /// holds, with its exact count, token or printed name.
 pub fn ground(alloc: Global, typed: Typed) -> Result<Task, GroundError>
-    requires read { IsRead typed }
     ensures task { IfOk result (λ task. task ≡ task_of typed) }
     ensures sound { OnOk result (fault_of (declarations typed) typed ≡ None) }
     ensures fault { IfErr result (Reports GroundError.OutOfMemory (fault_of (declarations typed) typed)) }

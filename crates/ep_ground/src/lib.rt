@@ -5,6 +5,7 @@ mod fault;
 mod formula;
 mod formula_fault;
 mod formulas;
+mod frames;
 mod grounding;
 pub mod laws;
 mod limits;
@@ -12,7 +13,7 @@ mod state_text;
 mod task;
 
 pub use ep_problem::{Plan, Problem};
-pub use fault::GroundError;
+pub use fault::{GroundError, S5Place};
 pub use formula::ground_formula;
 pub use formula_fault::FormulaFault;
 pub use grounding::ground;

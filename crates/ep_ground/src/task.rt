@@ -1,21 +1,25 @@
 //! Ground tasks.
 
-ghost use Rattle.std.specs.Prelude.{◌≡◌, ◌≢◌, ◌<◌, ◌≤◌, All, AllPairs, IfErr, IfNone, IfOk, IfSome, None, OnOk, Some, length, slice_get};
+ghost use Rattle.std.specs.Prelude.{◌≡◌, ◌≢◌, ◌<◌, ◌≤◌, All, AllPairs, IfErr, IfNone, IfOk, IfSome, IsTrue, None, OnOk, Some, length, slice_get};
 ghost use Rattle.ep_base.specs.Refusals.{Reports, first_some};
-ghost use Rattle.ep_theory.specs.PlanningTask.{IsPlanningTask, IsSmall};
+ghost use Rattle.ep_bounds.specs.declared.bounds.TheConstants.{MOST_COST};
+ghost use Rattle.ep_theory.specs.PlanningTask.{IsPlanningTask, IsS5Task, IsSmall};
 ghost use Rattle.ep_types.specs.Tasks.{HasNoFault, declarations};
 ghost use Rattle.ep_universe.specs.Universe.{IsUniverse, named};
 ghost use Rattle.ep_schema.specs.ActionNames.{action_names};
-ghost use Rattle.ep_ground.specs.Grounding.{IsNamed, behind_limits, problem_from, task_of};
+ghost use Rattle.ep_ground.specs.Frames.{not_s5};
+ghost use Rattle.ep_ground.specs.Grounding.{IsNamed, behind_limits, part_rows, problem_from, task_of};
 ghost use Rattle.ep_ground.specs.Within.{IsWithinLimits};
 
 use crate::fault::GroundError;
+use crate::frames::check_frames;
 use ep_event::Action;
 use ep_initial::initial_state;
 use ep_kripke::State;
 use ep_logic::{ActionId, AgentId, AtomId, Formula, Text};
 use ep_name::NameTable;
 use ep_problem::Problem;
+use ep_schema::costs::action_costs;
 use ep_schema::schemas::ground_actions;
 use ep_schema::tables::action_table;
 use ep_types::Typed;
@@ -65,8 +69,10 @@ impl Task {
         requires known { IsUniverse universe }
         requires actions { parts.actions ≡ action_names universe.names universe.tree.schemas }
         requires problem { parts.problem ≡ problem_from universe.names universe.tree }
+        requires frames { not_s5 universe.names universe.tree ≡ None }
         ensures { result ≡ task_of universe.tree }
     {
+        parts.problem.known();
         let Parts { actions, problem } = parts;
         Task {
             universe,
@@ -194,6 +200,25 @@ impl Task {
         self.problem.goal()
     }
 
+    /// The cost of an action: that which its schema states, or 1. It takes no memory.
+    pub fn cost(&self, a: ActionId) -> u32
+        requires { a.n < length self.now.problem.actions }
+        ensures value { slice_get self.now.problem.costs a.n ≡ Some result }
+        ensures least { 1 ≤ result }
+        ensures most { result ≤ MOST_COST }
+    {
+        self.problem.cost(a)
+    }
+
+    /// Whether the task says `frames s5;`, so that all its relations are equivalences.
+    pub fn s5(&self) -> bool
+        ensures value { result ≡ self.now.tree.s5 }
+        ensures frames { IsTrue result → IsS5Task self.now.problem }
+    {
+        self.known();
+        self.universe.tree().s5
+    }
+
     /// The problem that the task poses.
     pub fn problem(&self) -> &Problem
         ensures value { result.now ≡ self.now.problem }
@@ -223,26 +248,39 @@ pub struct Parts {
 fn problem_of_task(alloc: Global, universe: &Universe) -> Result<Problem, GroundError>
     requires { IsWithinLimits universe.now.names universe.now.tree }
     ensures value { IfOk result (λ problem. problem ≡ problem_from universe.now.names universe.now.tree) }
-    ensures sound { OnOk result (first_some (behind_limits universe.now.names universe.now.tree) ≡ None) }
-    ensures err { IfErr result (Reports GroundError.OutOfMemory (first_some (behind_limits universe.now.names universe.now.tree))) }
+    ensures sound { OnOk result (first_some (part_rows universe.now.names universe.now.tree) ≡ None) }
+    ensures err { IfErr result (Reports GroundError.OutOfMemory (first_some (part_rows universe.now.names universe.now.tree))) }
 {
     let tree = universe.tree();
     let actions = ground_actions(alloc, universe, tree.schemas.as_slice())?;
     let initial = initial_state(alloc, universe)?;
+    let costs = action_costs(alloc, universe)?;
     let goal = ground_form(alloc, universe, &tree.goal, &[])?;
-    Ok(Problem::new(initial, actions, goal))
+    Ok(Problem::new(initial, actions, costs, goal))
 }
 
+// Frees parts. They are freed in a function of their own, so that the proof of `parts_of_task` has none of them.
+fn discard(_parts: Parts) {}
+
 /// The parts of the ground task of a universe that is within the limits. An error tells the first action that assigns to
-/// one atom twice, or else the fault of the initial state, or that there is no memory.
+/// one atom twice, or else the fault of the initial state, or else the first relation that is to be an equivalence and is
+/// none, or that there is no memory.
 pub fn parts_of_task(alloc: Global, universe: &Universe) -> Result<Parts, GroundError>
     requires { IsWithinLimits universe.now.names universe.now.tree }
     ensures actions { IfOk result (λ parts. parts.actions ≡ action_names universe.now.names universe.now.tree.schemas) }
     ensures problem { IfOk result (λ parts. parts.problem ≡ problem_from universe.now.names universe.now.tree) }
+    ensures frames { OnOk result (not_s5 universe.now.names universe.now.tree ≡ None) }
     ensures sound { OnOk result (first_some (behind_limits universe.now.names universe.now.tree) ≡ None) }
     ensures err { IfErr result (Reports GroundError.OutOfMemory (first_some (behind_limits universe.now.names universe.now.tree))) }
 {
     let actions = action_table(alloc, universe)?;
     let problem = problem_of_task(alloc, universe)?;
-    Ok(Parts { actions, problem })
+    let parts = Parts { actions, problem };
+    match check_frames(alloc, universe, &parts) {
+        Ok(()) => Ok(parts),
+        Err(error) => {
+            discard(parts);
+            Err(error)
+        }
+    }
 }

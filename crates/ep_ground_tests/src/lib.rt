@@ -1,6 +1,8 @@
-//! Tests of ground tasks, their initial states and formulas, and plan files.
+//! Tests of ground tasks, their costs, relations, initial states and formulas, and plan files.
 #![tactic(auto)]
 
+#[cfg(test)]
+mod costs_and_frames;
 #[cfg(test)]
 mod explicit_states;
 #[cfg(test)]

@@ -8,7 +8,7 @@ ghost use Rattle.ep_kripke.specs.declared.limits.TheConstants.{MOST_WORLDS};
 ghost use Rattle.ep_theory.specs.Rising.{IsIn, IsRising};
 ghost use Rattle.ep_theory.specs.Kripke.{Kripke, IsState, atom_at, truth_of, links_of, successors};
 ghost use Rattle.ep_theory.specs.Relations.{all_pairs};
-ghost use Rattle.ep_theory.specs.Equivalences.{IsS5};
+ghost use Rattle.ep_theory.specs.Equivalences.{IsEquivalence, IsS5};
 ghost use Rattle.ep_theory.specs.Fits.{link_count};
 ghost use Rattle.ep_kripke.specs.States.{IsBounded};
 ghost use Rattle.ep_kripke.specs.Parts.{world};
@@ -322,6 +322,16 @@ impl State {
         Ok(List::from_vec(world_ids(alloc, &targets)?))
     }
 
+    /// Whether an agent's links are an equivalence of the worlds. It takes no memory.
+    pub fn is_equivalence(&self, a: AgentId) -> bool
+        requires agent { a.n < self.now.agents }
+        ensures value { IsTrue result ↔ IsEquivalence self.now.worlds (links_of self.now a.n) }
+        ensures valid { IsState self.now }
+        ensures bounded { IsBounded self.now }
+    {
+        self.relation(a).is_equivalence()
+    }
+
     /// Whether the links of every agent are an equivalence of the worlds. It takes no memory.
     pub fn is_s5(&self) -> bool
         ensures value { IsTrue result ↔ IsS5 self.now }
@@ -329,7 +339,7 @@ impl State {
         ensures bounded { IsBounded self.now }
     {
         for a in 0..self.agents() {
-            if !self.relation(AgentId { n: a }).is_equivalence() {
+            if !self.is_equivalence(AgentId { n: a }) {
                 return false;
             }
         }

@@ -13,7 +13,7 @@ use Rattle.ep_tree.specs.Terminals.{text_of}
 use Rattle.ep_layout.specs.Printing.{Printed, write, written}
 use Rattle.ep_tree.specs.Spelling.{between, behind, group, params, formula_at}
 use Rattle.ep_layout.proofs.PrintedLemmas.{written-append, written-headed}
-use Rattle.ep_syntax.proofs.CallerLemmas.{formula_at-Common, formula_at-Forall, formula_at-Exists, formula_at-Paren, formula_at-And, formula_at-Or}
+use Rattle.ep_tree.proofs.CallerLemmas.{formula_at-Common, formula_at-Forall, formula_at-Exists, formula_at-Paren, formula_at-And, formula_at-Or}
 
 -- the printer has written the formula, at whatever nesting
 abbrev pub Prints : Printed → Printed → FormulaTree → Type 0

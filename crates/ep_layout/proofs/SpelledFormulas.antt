@@ -1,11 +1,13 @@
 -- Each token of a well-formed formula is the spelling of one.
-use Rattle.std.proofs.Common.{◌≡◌, ℕ, suc, Bool, true, ◌&&◌, List, [], ◌∷◌, ◌++◌, map, Option, Some, refl, sym, ap, ◌∙◌, subst}
+use Rattle.std.proofs.Common.{◌≡◌, ◌<◌, ◌^◌, ℕ, suc, Bool, true, false, ◌&&◌, List, [], ◌∷◌, ◌++◌, map, Option, Some, refl, sym, ap, ◌∙◌, subst, arith}
+use Rattle.std.specs.Fmt.{decimal}
 use Rattle.std.specs.List.{AllByRecursion, list_all, flat_map}
 use Rattle.std.specs.Prelude.{nat_le, length}
 use Rattle.std.proofs.lemmas.Bool.{false≢true}
+use Rattle.std.proofs.lemmas.Bool.Decides.{nat_tests}
 use Rattle.ep_lex.specs.declared.token.TokenKind.TheVariants as kind
 use Rattle.ep_lex.specs.declared.token.PieceKind.TheVariants as piece
-use Rattle.ep_lex.specs.Pieces.{is_letter, is_word_byte, is_piece}
+use Rattle.ep_lex.specs.Pieces.{is_letter, is_digit, is_word_byte, is_piece}
 use Rattle.ep_tree.specs.declared.terminal.Terminal.{Terminal}
 use Rattle.ep_tree.specs.declared.terminal.Terminal.TheVariants as the
 use Rattle.ep_tree.specs.declared.tree.Name.{Name}
@@ -22,7 +24,7 @@ use Rattle.ep_tree.specs.Marks.{Mark, fixed, named, texts}
 use Rattle.ep_tree.specs.Spelling.{behind, between, braced, names, arguments, atom, group, param, params, parts_at, production, formula_at}
 use Rattle.ep_tree.specs.Terminals.{text_of}
 use Rattle.ep_layout.proofs.LayoutTokens.{IsSpelling, AreSpellings}
-use Rattle.ep_reader.proofs.CallerLemmas.{each-list_all, both_true}
+use Rattle.ep_reader.proofs.CallerLemmas.{each-list_all, both_true, written_count}
 
 -- each mark's bytes spell a token
 abbrev pub AreSpelled : List Mark → Type 0
@@ -90,7 +92,9 @@ spelled_terminal the.Semicolon = refl
 spelled_terminal the.Colon = refl
 spelled_terminal the.Less = refl
 spelled_terminal the.Equals = refl
+spelled_terminal the.S5 = refl
 spelled_terminal the.One = refl
+spelled_terminal the.Two = refl
 
 spelled_word : (b : ℕ) (bs : List ℕ) → is_piece (piece.Spelling kind.Word) (b ∷ bs) ≡ true → IsSpelling (b ∷ bs)
 spelled_word b bs p =
@@ -104,6 +108,18 @@ spelled_name n f = by_text n.text (both_true _ _ f).0
     by_text : (text : List ℕ) → is_piece (piece.Spelling kind.Word) text ≡ true → IsSpelling text
     by_text [] p = absurd (false≢true p)
     by_text (b ∷ bs) p = spelled_word b bs p
+
+digit_no_letter : (b : ℕ) → is_digit b ≡ true → is_letter b ≡ false
+digit_no_letter b e = grind (arith, nat_tests)
+
+pub spelled_count : (n : ℕ) → n < 10 ^ 9 → IsSpelling (decimal n)
+spelled_count n l = by_text (decimal n) (both_true _ _ (written_count n l)).0
+  where
+    by_text : (text : List ℕ) → is_piece (piece.Spelling kind.Number) text ≡ true → IsSpelling text
+    by_text [] p = absurd (false≢true p)
+    by_text (b ∷ bs) p =
+        let d = (both_true (is_digit b) (list_all is_digit bs) (both_true (is_digit b && list_all is_digit bs) (nat_le (length bs) 8) p).0).0 in
+        rw (digit_no_letter b d, d) p
 
 -- ---- lists
 

@@ -1,5 +1,5 @@
 -- Each token of a well-formed task is the spelling of one.
-use Rattle.std.proofs.Common.{Bool, true, false, List, [], ◌∷◌, ◌++◌, map, Option, Some, None, refl, IfSome}
+use Rattle.std.proofs.Common.{ℕ, Bool, true, false, List, [], ◌∷◌, ◌++◌, map, Option, Some, None, refl, IfSome, arith}
 use Rattle.std.specs.List.{AllByRecursion, flat_map}
 use Rattle.ep_tree.specs.declared.terminal.Terminal.{Terminal}
 use Rattle.ep_tree.specs.declared.terminal.Terminal.TheVariants as the
@@ -25,11 +25,11 @@ use Rattle.ep_tree.specs.declared.tree.BodyTree.{BodyTree}
 use Rattle.ep_tree.specs.declared.tree.BodyTree.TheVariants.{Announce, Private, Sense, Assign, Events}
 use Rattle.ep_tree.specs.declared.tree.SchemaTree.{SchemaTree}
 use Rattle.ep_tree.specs.declared.tree.FormulaTree.{FormulaTree}
-use Rattle.ep_tree.specs.Formed.{OneOrMore, IsFormedName, IsFormedAtom, IsFormedGroup, IsFormedFormula, IsFormedType, IsFormedObject, IsFormedFluent, IsFormedPair, IsFormedPairs, IsFormedLink, IsFormedWorld, IsFormedSees, IsFormedInit, IsFormedSet, IsFormedEvent, IsFormedBody, IsFormedSignature, IsFormedSchema, IsFormedTask}
+use Rattle.ep_tree.specs.Formed.{OneOrMore, IsFormedName, IsFormedAtom, IsFormedGroup, IsFormedFormula, IsFormedType, IsFormedObject, IsFormedFluent, IsFormedPair, IsFormedPairs, IsFormedLink, IsFormedWorld, IsFormedSees, IsFormedInit, IsFormedSet, IsFormedEvent, IsFormedBody, IsFormedSignature, IsFormedCost, IsFormedSchema, IsFormedTask}
 use Rattle.ep_tree.specs.Marks.{Mark, fixed, named, texts}
 use Rattle.ep_tree.specs.Spelling as spell
 use Rattle.ep_layout.proofs.LayoutTokens.{AreSpellings}
-use Rattle.ep_layout.proofs.SpelledFormulas.{AreSpelled, spelled-texts, spelled-append, spelled_name, spelled-flat_map, spelled-between, each-some, spelled-braced, spelled-names, spelled-arguments, spelled-atom, spelled-group, spelled-params, spelled-formula}
+use Rattle.ep_layout.proofs.SpelledFormulas.{AreSpelled, spelled-texts, spelled-append, spelled_name, spelled_count, spelled-flat_map, spelled-between, each-some, spelled-braced, spelled-names, spelled-arguments, spelled-atom, spelled-group, spelled-params, spelled-formula}
 
 ended : (ms : List Mark) → AreSpelled ms → AreSpelled (ms ++ fixed the.Semicolon ∷ [])
 ended ms s = spelled-append ms (fixed the.Semicolon ∷ []) s (refl, tt)
@@ -149,17 +149,26 @@ signature : (ps : List ParamTree) (d : Bool) → IsFormedSignature ps d → AreS
 signature [] d f = tt
 signature (p ∷ ps) d f = (refl, spelled-append (spell.params (p ∷ ps)) (fixed the.CloseParen ∷ spell.distinct d) (spelled-params (p ∷ ps) f) (refl, distinct d))
 
+cost : (c : Option ℕ) → IfSome c IsFormedCost → AreSpelled (spell.cost c)
+cost None f = tt
+cost (Some n) f = (refl, (spelled_count n (omega (arith, f.1)), tt))
+
 schema : (s : SchemaTree) → IsFormedSchema s → AreSpelled (spell.schema s)
 schema s f = (
   refl,
   (
     spelled_name s.name f.0,
-    spelled-append (spell.signature s.params s.distinct) (spell.braced (spell.body s.body)) (signature s.params s.distinct f.1)
-        (spelled-braced (spell.body s.body) (body s.body f.2)),
+    spelled-append (spell.signature s.params s.distinct) _ (signature s.params s.distinct f.1)
+        (spelled-append (spell.cost s.cost) (spell.braced (spell.body s.body)) (cost s.cost f.2)
+        (spelled-braced (spell.body s.body) (body s.body f.3))),
   ),
 )
 
 -- ---- whole tasks
+
+frames : (s5 : Bool) → AreSpelled (spell.frames s5)
+frames true = (refl, (refl, (refl, tt)))
+frames false = tt
 
 task : (t : TaskTree) → IsFormedTask t → AreSpelled (spell.task t)
 task t f = (
@@ -168,12 +177,13 @@ task t f = (
     spelled_name t.name f.0,
     (
       refl,
-      spelled-append (spell.types t.types) _ (types t.types f.1)
+      spelled-append (spell.frames t.s5) _ (frames t.s5)
+          (spelled-append (spell.types t.types) _ (types t.types f.1)
           (spelled-append (spell.objects t.objects) _ (objects t.objects f.2)
           (spelled-append (spell.fluents t.fluents) _ (fluents t.fluents f.3)
           (spelled-append (spell.init t.init) _ (init t.init f.4)
           (spelled-append (flat_map spell.schema t.schemas) _ (spelled-flat_map IsFormedSchema spell.schema schema t.schemas f.5)
-          (refl, sentence t.goal f.6))))),
+          (refl, sentence t.goal f.6)))))),
     ),
   ),
 )

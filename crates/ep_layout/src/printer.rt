@@ -1,6 +1,7 @@
 //! Tokens, written with one blank or one line feed between neighbours.
 
 ghost use Rattle.std.specs.Prelude.{◌≡◌, ◌<◌, [], ◌++◌, All, OnOk, IfOk};
+ghost use Rattle.std.specs.Fmt.{decimal};
 ghost use Rattle.ep_base.specs.Texts.{line};
 ghost use Rattle.ep_layout.specs.Layout.{starts_line};
 ghost use Rattle.ep_layout.specs.Printing as printing;
@@ -23,6 +24,7 @@ pub enum Last {
 /// The text so far, and what stands before the next token.
 #[derive(Drop)]
 pub struct Printer {
+    alloc: Global,
     text: TextBuilder,
     last: Last,
 }
@@ -76,6 +78,7 @@ impl Printer {
         ensures { result ≡ record { bytes = []; last = Nothing } }
     {
         Printer {
+            alloc,
             text: TextBuilder::new(alloc),
             last: Last::Nothing,
         }
@@ -115,11 +118,23 @@ impl Printer {
         self.write_token(name.text.as_slice())
     }
 
+    /// A number in decimal.
+    pub fn write_count(&mut self, count: u32) -> Result<(), OutOfMemory>
+        ensures { OnOk result (self.new ≡ write self.old (decimal count)) }
+    {
+        let digits = format!(in self.alloc; "{count}")?;
+        self.write_token(digits.as_bytes())
+    }
+
     /// The text, with a line feed at its end.
     pub fn finish(self) -> Result<Text, OutOfMemory>
         ensures { IfOk result (λ text. text ≡ line self.bytes) }
     {
-        let Printer { text, last: _ } = self;
+        let Printer {
+            alloc: _,
+            text,
+            last: _,
+        } = self;
         let mut text = text;
         text.push("\n")?;
         Ok(text.finish())

@@ -1,3 +1,4 @@
 pub mod Runs
 pub mod Stops
+pub mod Truthful
 pub mod Verdicts

@@ -5,9 +5,10 @@ ghost use Rattle.ep_theory.specs.Product.{IsApplicable, product_of};
 ghost use Rattle.ep_base.specs.Refusals.{OrWant};
 ghost use Rattle.ep_update.specs.Updates.{IsWithin, IsFault};
 ghost use Rattle.ep_update.specs.declared.update.UpdateError.TheVariants as refused;
-ghost use Rattle.ep_theory.specs.PlanningTask.{IsPlanningTask};
+ghost use Rattle.ep_theory.specs.PlanningTask.{IsPlanningTask, IsS5Task};
 ghost use Rattle.ep_plan.specs.Runs.{RunUnder, AreOf, product_count};
 ghost use Rattle.ep_plan.specs.Stops.{stop_of};
+ghost use Rattle.ep_plan.specs.Truthful.{LeavesTruthful};
 
 use ep_kripke::State;
 use ep_logic::{ActionId, OutOfMemory, Steps};
@@ -52,10 +53,12 @@ pub fn run_plan<L: Ledger>(
     requires worlds { size.worlds ≤ MOST_WORLDS }
     requires links { size.links < 2 ^ 32 }
     ensures run { IfOk result (RunUnder problem.now plan.now size) }
+    ensures truthful { IsS5Task problem.now → IfOk result LeavesTruthful }
     ensures products { IfOk result (λ o. steps.new ≡ steps.old + product_count (length plan.now) o) }
     ensures most { steps.new ≤ steps.old + length plan.now }
     ensures rises { steps.old ≤ steps.new }
 {
+    problem.known();
     let mut made: Option<State> = None;
     for (before, place) in plan.as_slice().iter().enumerate() {
         let state = reached(problem, &made);

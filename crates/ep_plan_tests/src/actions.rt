@@ -3,7 +3,7 @@
 ghost use Rattle.std.specs.Prelude.{◌≡◌, ◌≤◌, ◌<◌, ◌^◌, IfOk, length};
 
 use ep_event::{Action, ActionParts, Assign, EventLink, EventParts};
-use ep_logic::{AgentId, AtomId, EventId, Formula, List, OutOfMemory};
+use ep_logic::{AgentId, Agents, AtomId, EventId, Formula, List, OutOfMemory};
 use std::alloc::Global;
 use std::process::Abort;
 use std::test::Fail;
@@ -18,6 +18,8 @@ pub enum Act {
     Either(&'static [(u32, u32)]),
     /// Atom 0 becomes true.
     MadeTrue,
+    /// The one agent is told that the atom of this number is true.
+    Told(u32),
 }
 
 fn events(alloc: Global) -> Result<List<EventParts>, OutOfMemory> {
@@ -92,12 +94,19 @@ fn said(rt: &impl Abort, alloc: Global, agents: u32, formula: Formula) -> Result
     Ok(Action::announce(alloc, agents, formula)?)
 }
 
+fn told(rt: &impl Abort, alloc: Global, formula: Formula) -> Result<Action, Fail> {
+    let members = Agents::none().with(AgentId { n: 0 });
+    assert!(rt; !members.is_empty() && members.is_within(1));
+    Ok(Action::private(alloc, 1, formula, members)?)
+}
+
 fn action(rt: &impl Abort, alloc: Global, act: Act) -> Result<Action, Fail> {
     match act {
         Act::Nothing(agents) => said(rt, alloc, agents, Formula::truth(true)),
         Act::Said(agents, n) => said(rt, alloc, agents, Formula::atom(AtomId { n })),
         Act::Either(pairs) => either(rt, alloc, pairs),
         Act::MadeTrue => made_true(alloc),
+        Act::Told(n) => told(rt, alloc, Formula::atom(AtomId { n })),
     }
 }
 

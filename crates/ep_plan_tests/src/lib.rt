@@ -1,4 +1,4 @@
-//! Tests of problems, of runs of plans and of verdicts.
+//! Tests of problems, of what plans measure, of runs of plans and of verdicts.
 #![tactic(auto)]
 
 #[cfg(test)]
@@ -13,3 +13,5 @@ mod states;
 mod tasks;
 #[cfg(test)]
 mod verdicts;
+#[cfg(test)]
+mod weights;

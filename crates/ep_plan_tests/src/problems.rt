@@ -2,7 +2,7 @@
 
 use crate::actions::{Act, actions};
 use crate::states::{Shape, state};
-use crate::tasks::posed;
+use crate::tasks::{list, posed};
 use ep_event::Action;
 use ep_kripke::State;
 use ep_logic::{ActionId, AtomId, EventId, Formula, Node};
@@ -22,7 +22,8 @@ fn problem(rt: &impl Abort, alloc: Global) -> Result<Problem, Fail> {
     let initial = state(rt, alloc, &COIN)?;
     let actions = actions(rt, alloc, &[Act::Said(1, 0), Act::Nothing(1)])?;
     let goal = Formula::not(alloc, Formula::atom(AtomId { n: 0 }))?;
-    Ok(posed(rt, initial, actions, goal))
+    let costs = list(alloc, &[1, 100])?;
+    Ok(posed(rt, initial, actions, costs, goal))
 }
 
 // The precondition is an atom, or not.

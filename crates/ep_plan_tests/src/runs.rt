@@ -2,7 +2,7 @@
 
 ghost use Rattle.std.specs.Prelude.{◌≡◌, ◌<◌};
 
-use crate::tasks::{BLUR, FINISH, TOLD, WAIT, WAITING, plan, problem};
+use crate::tasks::{BLUR, COIN, FINISH, TOLD, WAIT, WAITING, plan, problem};
 use ep_logic::{OutOfMemory, Steps};
 use ep_plan::{Outcome, plan_fits, run_plan};
 use ep_problem::{Plan, Problem};
@@ -12,6 +12,11 @@ use std::marker::Brand;
 use std::process::Abort;
 use std::sync::ledger::{Blank, Ledger};
 use std::test::Fail;
+
+const WIDE: Size = Size {
+    worlds: 65_536,
+    links: 33_554_432,
+};
 
 fn ran<L: Ledger>(
     rt: &impl Abort,
@@ -88,9 +93,37 @@ fn runs_under_a_size_stop_where_it_is_spent(rt: HostRuntime) -> Result<(), Fail>
 #[test]
 fn a_run_is_stuck_at_an_inapplicable_action(rt: HostRuntime) -> Result<(), Fail> {
     let task = problem(&rt, rt.alloc(), &TOLD)?;
-    let wide = Size {
-        worlds: 65_536,
-        links: 33_554_432,
-    };
-    check(&rt, rt.alloc(), &task, &[0, 1, 0], wide, ("stuck", 2, 0))
+    check(&rt, rt.alloc(), &task, &[0, 1, 0], WIDE, ("stuck", 2, 0))
+}
+
+// Whether the state that is left has equivalences, where one is left.
+fn left_s5(outcome: &Outcome) -> Option<bool> {
+    match outcome {
+        Outcome::After(state) => Some(state.is_s5()),
+        _ => None,
+    }
+}
+
+fn check_s5(
+    rt: &impl Abort,
+    alloc: Global,
+    problem: &Problem,
+    places: &[u32],
+    is_s5: bool,
+) -> Result<(), Fail> {
+    let plan = plan(alloc, places)?;
+    let outcome = outcome(rt, alloc, problem, &plan, WIDE)?;
+    assert_eq!(rt; left_s5(&outcome), Some(is_s5));
+    Ok(())
+}
+
+// An announcement and a message to all agents keep equivalences, and an event that is taken for another does not.
+#[test]
+fn runs_of_s5_actions_leave_s5_states(rt: HostRuntime) -> Result<(), Fail> {
+    let task = problem(&rt, rt.alloc(), &COIN)?;
+    let rows: [(&[u32], bool); 3] = [(&[], true), (&[0, 1], true), (&[2], false)];
+    for (places, is_s5) in rows {
+        check_s5(&rt, rt.alloc(), &task, places, is_s5)?;
+    }
+    Ok(())
 }

@@ -1,6 +1,7 @@
 //! Problems whose goal is the atom, and plans.
 
 ghost use Rattle.std.specs.Prelude.{◌≤◌};
+ghost use Rattle.std.specs.List.{AllByRecursion};
 
 use crate::actions::{Act, actions};
 use crate::states::{Shape, state};
@@ -13,9 +14,11 @@ use std::alloc::Global;
 use std::process::Abort;
 use std::test::Fail;
 
+/// A task has a cost for each action.
 pub struct Task {
     initial: Shape,
     acts: &'static [Act],
+    costs: &'static [u32],
 }
 
 // The actions of the next task: each doubles the worlds, and the second links all copies of a world; the third makes the
@@ -38,6 +41,7 @@ pub const WAITING: Task = Task {
         Act::Either(&[(0, 0), (0, 1), (1, 0), (1, 1)]),
         Act::MadeTrue,
     ],
+    costs: &[10, 3, 4],
 };
 
 // Two designated worlds, the atom true at the first alone. That nothing happens is announced, or that the atom is true.
@@ -48,18 +52,61 @@ pub const TOLD: Task = Task {
         designated: &[0, 1],
     },
     acts: &[Act::Nothing(1), Act::Said(1, 0)],
+    costs: &[1, 1],
 };
 
-pub fn posed(rt: &impl Abort, initial: State, actions: List<Action>, goal: Formula) -> Problem {
+// The agent does not know whether the atom is true. That nothing happens is announced, or the agent is told the atom, or
+// takes the one of two events that may happen for the other.
+pub const COIN: Task = Task {
+    initial: Shape {
+        truth: &[true, false],
+        links: &[(0, 0), (0, 1), (1, 0), (1, 1)],
+        designated: &[0],
+    },
+    acts: &[
+        Act::Nothing(1),
+        Act::Told(0),
+        Act::Either(&[(0, 1), (1, 1)]),
+    ],
+    costs: &[1, 1, 1],
+};
+
+fn check_costs(rt: &impl Abort, costs: &[u32])
+    ensures least { AllByRecursion (λ cost. 1 ≤ cost) costs.now }
+    ensures most { AllByRecursion (λ cost. cost ≤ 100) costs.now }
+{
+    for cost in costs {
+        assert!(rt; 1 <= *cost && *cost <= 100);
+    }
+}
+
+pub fn list(alloc: Global, numbers: &[u32]) -> Result<List<u32>, OutOfMemory> {
+    let mut list = List::new(alloc);
+    for number in numbers {
+        list.push(*number)?;
+    }
+    Ok(list)
+}
+
+pub fn posed(
+    rt: &impl Abort,
+    initial: State,
+    actions: List<Action>,
+    costs: List<u32>,
+    goal: Formula,
+) -> Problem {
     assert!(rt; initial.worlds() <= 256 && actions.as_slice().len() <= 1024);
     assert!(rt; actions_fit(&initial, actions.as_slice()) && fits(&initial, &goal));
-    Problem::new(initial, actions, goal)
+    assert!(rt; costs.as_slice().len() == actions.as_slice().len());
+    check_costs(rt, costs.as_slice());
+    Problem::new(initial, actions, costs, goal)
 }
 
 pub fn problem(rt: &impl Abort, alloc: Global, task: &Task) -> Result<Problem, Fail> {
     let initial = state(rt, alloc, &task.initial)?;
     let actions = actions(rt, alloc, task.acts)?;
-    Ok(posed(rt, initial, actions, Formula::atom(AtomId { n: 0 })))
+    let costs = list(alloc, task.costs)?;
+    Ok(posed(rt, initial, actions, costs, Formula::atom(AtomId { n: 0 })))
 }
 
 pub fn plan(alloc: Global, places: &[u32]) -> Result<Plan, OutOfMemory> {

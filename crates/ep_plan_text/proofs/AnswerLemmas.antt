@@ -1,6 +1,7 @@
 -- What bytes say as a plan file is one thing.
-use Rattle.std.proofs.Common.{◌≡◌, ◌≢◌, ℕ, ◌≤◌, ◌<◌, List, length, Result, Ok, Err, IfOk, IfErr, All, refl, sym, ap, ◌∙◌, subst, arith, ◌⊎◌, inl, inr, ⊎_elim}
+use Rattle.std.proofs.Common.{◌≡◌, ◌≢◌, ℕ, ◌≤◌, ◌<◌, List, length, Some, IfSome, Result, Ok, Err, IfOk, IfErr, All, refl, sym, ap, ◌∙◌, subst, arith, ◌⊎◌, inl, inr, ⊎_elim}
 use Rattle.std.specs.Prelude.{AllPairs}
+use Rattle.ep_bounds.specs.declared.bounds.Measure.TheVariants.{Cost}
 use Rattle.ep_lex.specs.Tokens.{Lexed, line_at}
 use Rattle.ep_logic.specs.declared.ids.ActionId.{ActionId}
 use Rattle.ep_tree.specs.declared.tree.PlanTree.{PlanTree}
@@ -9,6 +10,7 @@ use Rattle.ep_reader.specs.declared.text.TextError.{TextError}
 use Rattle.ep_reader.specs.declared.text.TextError.TheVariants as text_error
 use Rattle.ep_reader.specs.Texts.{IsTextOf, IsTextFault}
 use Rattle.ep_reader.proofs.CallerLemmas.{text_or_fault, text_fault_one}
+use Rattle.ep_theory.specs.Plans.{weight}
 use Rattle.ep_ground.specs.Task.{GroundTask}
 use Rattle.ep_plan_text.specs.declared.read.PlanError.{PlanError}
 use Rattle.ep_plan_text.specs.declared.read.PlanError.TheVariants as error
@@ -19,10 +21,16 @@ use Rattle.ep_plan_text.proofs.TreeLemmas.{file_lexed, file_trees}
 
 -- ---- the faults of a tree
 
+Some-injective : (a b : ℕ) → Some a ≡ Some b → a ≡ b
+Some-injective a b e = cc
+
 tree_plan_or_fault : (g : GroundTask) (line : ℕ → ℕ) (tree : PlanTree) (plan : List ActionId) (e : PlanError) → IsPlanOf g tree plan → IsTreeFault g line tree e → ⊥
 tree_plan_or_fault g line tree plan error.OtherTask x y = y x.task
 tree_plan_or_fault g line tree plan (error.UnknownAction l) x y = known_or_not g tree.calls plan y.1.call x.named y.1.first
 tree_plan_or_fault g line tree plan (error.WrongCount s l) x y = y.1.differ (y.1.stated_is ∙ x.count ∙ sym y.1.listed_is)
+tree_plan_or_fault g line tree plan (error.WrongCost s m) x y =
+    let stated : s ≡ weight g.problem Cost plan = subst (λ z. IfSome z (λ cost. cost ≡ weight g.problem Cost plan)) y.1.stated_is x.cost in
+    y.1.differ (stated ∙ ap (weight g.problem Cost) (y.1.only plan x.named) ∙ sym y.1.summed_is)
 tree_plan_or_fault g line tree plan error.OutOfMemory x y = y
 tree_plan_or_fault g line tree plan error.TooManyTokens x y = y
 tree_plan_or_fault g line tree plan (error.Stray at) x y = y
@@ -33,17 +41,27 @@ tree_fault_one : (g : GroundTask) (line : ℕ → ℕ) (tree : PlanTree) (e f : 
 tree_fault_one g line tree error.OtherTask error.OtherTask x y = refl
 tree_fault_one g line tree error.OtherTask (error.UnknownAction l) x y = absurd (x y.0)
 tree_fault_one g line tree error.OtherTask (error.WrongCount s m) x y = absurd (x y.0)
+tree_fault_one g line tree error.OtherTask (error.WrongCost s m) x y = absurd (x y.0)
 tree_fault_one g line tree (error.UnknownAction l) error.OtherTask x y = absurd (y x.0)
 tree_fault_one g line tree (error.UnknownAction l) (error.UnknownAction k) x y =
     let same = one_unknown g tree.calls x.1.call y.1.call x.1.first y.1.first in
     ap error.UnknownAction (x.1.line_is ∙ ap (λ c. line c.name.token) same ∙ sym y.1.line_is)
 tree_fault_one g line tree (error.UnknownAction l) (error.WrongCount s m) x y = absurd (known_or_not g tree.calls y.1.actions x.1.call y.1.named x.1.first)
+tree_fault_one g line tree (error.UnknownAction l) (error.WrongCost s m) x y = absurd (known_or_not g tree.calls y.1.actions x.1.call y.1.named x.1.first)
 tree_fault_one g line tree (error.WrongCount s m) error.OtherTask x y = absurd (y x.0)
 tree_fault_one g line tree (error.WrongCount s m) (error.UnknownAction l) x y = absurd (known_or_not g tree.calls x.1.actions y.1.call x.1.named y.1.first)
 tree_fault_one g line tree (error.WrongCount s m) (error.WrongCount r n) x y =
     let a : s ≡ r = x.1.stated_is ∙ sym y.1.stated_is in
     let b : m ≡ n = x.1.listed_is ∙ sym y.1.listed_is in
     λ i. error.WrongCount (a i) (b i)
+tree_fault_one g line tree (error.WrongCount s m) (error.WrongCost r n) x y = absurd (x.1.differ (x.1.stated_is ∙ y.1.count ∙ sym x.1.listed_is))
+tree_fault_one g line tree (error.WrongCost s m) error.OtherTask x y = absurd (y x.0)
+tree_fault_one g line tree (error.WrongCost s m) (error.UnknownAction l) x y = absurd (known_or_not g tree.calls x.1.actions y.1.call x.1.named y.1.first)
+tree_fault_one g line tree (error.WrongCost s m) (error.WrongCount r n) x y = absurd (y.1.differ (y.1.stated_is ∙ x.1.count ∙ sym y.1.listed_is))
+tree_fault_one g line tree (error.WrongCost s m) (error.WrongCost r n) x y =
+    let a : s ≡ r = Some-injective s r (sym x.1.stated_is ∙ y.1.stated_is) in
+    let b : m ≡ n = x.1.summed_is ∙ ap (weight g.problem Cost) (y.1.only x.1.actions x.1.named) ∙ sym y.1.summed_is in
+    λ i. error.WrongCost (a i) (b i)
 tree_fault_one g line tree error.OutOfMemory f x y = absurd x
 tree_fault_one g line tree error.TooManyTokens f x y = absurd x
 tree_fault_one g line tree (error.Stray at) f x y = absurd x
@@ -60,6 +78,10 @@ tree_fault_one g line tree (error.WrongCount s m) error.OutOfMemory x y = absurd
 tree_fault_one g line tree (error.WrongCount s m) error.TooManyTokens x y = absurd y
 tree_fault_one g line tree (error.WrongCount s m) (error.Stray at) x y = absurd y
 tree_fault_one g line tree (error.WrongCount s m) (error.Syntax t n) x y = absurd y
+tree_fault_one g line tree (error.WrongCost s m) error.OutOfMemory x y = absurd y
+tree_fault_one g line tree (error.WrongCost s m) error.TooManyTokens x y = absurd y
+tree_fault_one g line tree (error.WrongCost s m) (error.Stray at) x y = absurd y
+tree_fault_one g line tree (error.WrongCost s m) (error.Syntax t n) x y = absurd y
 
 -- ---- a text that is a file, or is none
 
@@ -77,6 +99,7 @@ with_file g bytes found tree (error.Syntax t n) f x = text_or_fault plans bytes 
 with_file g bytes found tree error.OtherTask f x = moved g bytes found x.found tree x.tree error.OtherTask f x.file x.fault
 with_file g bytes found tree (error.UnknownAction l) f x = moved g bytes found x.found tree x.tree (error.UnknownAction l) f x.file x.fault
 with_file g bytes found tree (error.WrongCount s m) f x = moved g bytes found x.found tree x.tree (error.WrongCount s m) f x.file x.fault
+with_file g bytes found tree (error.WrongCost s m) f x = moved g bytes found x.found tree x.tree (error.WrongCost s m) f x.file x.fault
 with_file g bytes found tree error.OutOfMemory f x = x
 
 -- as a plan file's error
@@ -95,6 +118,7 @@ with_text g bytes e (error.Syntax t n) x y = ap told_as (text_fault_one plans by
 with_text g bytes e error.OtherTask x y = absurd (text_or_fault plans bytes y.found y.tree e y.file x)
 with_text g bytes e (error.UnknownAction l) x y = absurd (text_or_fault plans bytes y.found y.tree e y.file x)
 with_text g bytes e (error.WrongCount s m) x y = absurd (text_or_fault plans bytes y.found y.tree e y.file x)
+with_text g bytes e (error.WrongCost s m) x y = absurd (text_or_fault plans bytes y.found y.tree e y.file x)
 with_text g bytes e error.OutOfMemory x y = absurd y
 
 with_tree : (g : GroundTask) (bytes : List ℕ) (e f : PlanError) → HasTreeFault g bytes e → IsFault g bytes f → e ≡ f
@@ -108,6 +132,7 @@ fault_one g bytes (error.Syntax t n) f x y = with_text g bytes (text_error.Synta
 fault_one g bytes error.OtherTask f x y = with_tree g bytes error.OtherTask f x y
 fault_one g bytes (error.UnknownAction l) f x y = with_tree g bytes (error.UnknownAction l) f x y
 fault_one g bytes (error.WrongCount s m) f x y = with_tree g bytes (error.WrongCount s m) f x y
+fault_one g bytes (error.WrongCost s m) f x y = with_tree g bytes (error.WrongCost s m) f x y
 fault_one g bytes error.OutOfMemory f x y = absurd x
 
 -- bytes are a plan or have a fault, and not both
@@ -125,6 +150,7 @@ tree_fault_is : (g : GroundTask) (bytes : List ℕ) (found : Lexed) (tree : Plan
 tree_fault_is g bytes found tree error.OtherTask f x = record { found = found; tree = tree; file = f; fault = x }
 tree_fault_is g bytes found tree (error.UnknownAction l) f x = record { found = found; tree = tree; file = f; fault = x }
 tree_fault_is g bytes found tree (error.WrongCount s m) f x = record { found = found; tree = tree; file = f; fault = x }
+tree_fault_is g bytes found tree (error.WrongCost s m) f x = record { found = found; tree = tree; file = f; fault = x }
 tree_fault_is g bytes found tree error.OutOfMemory f x = absurd x
 tree_fault_is g bytes found tree error.TooManyTokens f x = absurd x
 tree_fault_is g bytes found tree (error.Stray at) f x = absurd x
@@ -138,6 +164,7 @@ file_fault_is g bytes (error.Syntax t n) (inr x) = inr x
 file_fault_is g bytes error.OtherTask (inr x) = absurd x
 file_fault_is g bytes (error.UnknownAction l) (inr x) = absurd x
 file_fault_is g bytes (error.WrongCount s m) (inr x) = absurd x
+file_fault_is g bytes (error.WrongCost s m) (inr x) = absurd x
 file_fault_is g bytes error.OutOfMemory (inr x) = absurd x
 
 -- the fault of the text that is read is the fault of the file

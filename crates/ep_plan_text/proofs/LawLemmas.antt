@@ -1,11 +1,13 @@
 -- The text of a plan is read as the plan.
-use Rattle.std.proofs.Common.{◌≡◌, ℕ, suc, ◌*◌, ◌^◌, ◌≤◌, ◌<◌, Bool, true, false, cond, List, [], ◌∷◌, length, map, get_or, Some, All, refl, sym, ap, ◌∙◌, subst, arith, length-append}
+use Rattle.std.proofs.Common.{◌≡◌, ℕ, suc, ◌*◌, ◌^◌, ◌≤◌, ◌<◌, Bool, true, false, cond, List, [], ◌∷◌, ◌++◌, length, map, get_or, Option, Some, None, IfSome, All, refl, sym, ap, ◌∙◌, subst, arith, length-append}
 use Rattle.std.specs.List.{AllByRecursion, flat_map}
 use Rattle.std.proofs.lemmas.List.{length-map}
 use Rattle.std.proofs.lemmas.List.Elements.{All-nil, All-cons, All-head, All-tail, All-append, All-map, All-get_or, All-from_get_or, All-weaker, All-filter}
 use Rattle.std.proofs.lemmas.Option.{slice_get-get_or}
 use Rattle.ep_binding.specs.Bindings.{bindings, distinct_bindings, all_different, IsBinding}
 use Rattle.ep_binding.proofs.CallerLemmas.{all-bindings}
+use Rattle.ep_bounds.specs.declared.bounds.Measure.{Measure}
+use Rattle.ep_bounds.specs.declared.bounds.Measure.TheVariants.{Length, Cost}
 use Rattle.ep_lex.specs.declared.limits.TheConstants.{MOST_BYTES, MOST_TOKENS}
 use Rattle.ep_lex.specs.declared.token.Token.{Token}
 use Rattle.ep_lex.specs.Pieces.{Split}
@@ -21,7 +23,7 @@ use Rattle.ep_tree.specs.declared.tree.PlanTree.{PlanTree}
 use Rattle.ep_tree.specs.declared.tree.SchemaTree.{SchemaTree}
 use Rattle.ep_tree.specs.declared.tree.TaskTree.{TaskTree}
 use Rattle.ep_tree.specs.Bare.{bare_names, bare_call, bare_plan}
-use Rattle.ep_tree.specs.Formed.{OneOrMore, IsFormedName, IsFormedCall, IsFormedPlan, IsFormedObject, IsFormedSchema}
+use Rattle.ep_tree.specs.Formed.{OneOrMore, IsFormedName, IsFormedCall, IsFormedCount, IsFormedPlan, IsFormedObject, IsFormedSchema}
 use Rattle.ep_tree.specs.Grammar.{plans, spelling_of, Reads}
 use Rattle.ep_tree.specs.Marks.{fixed, named}
 use Rattle.ep_syntax.specs.PlanReading.{plan as plan_reader}
@@ -39,6 +41,7 @@ use Rattle.ep_universe.specs.Objects.{candidates, objects_of}
 use Rattle.ep_schema.specs.Actions.{schema_bindings}
 use Rattle.ep_universe.specs.PrintedNames.{object_name}
 use Rattle.ep_schema.specs.ActionNames.{action_name, schema_names, action_names}
+use Rattle.ep_theory.specs.Plans.{weight}
 use Rattle.ep_ground.specs.Task.{GroundTask}
 use Rattle.ep_tree.specs.Grammar.{IsRead}
 use Rattle.ep_ground.specs.Grounding.{IsWhole, task_of}
@@ -49,7 +52,8 @@ use Rattle.ep_plan_text.specs.Calls.{name_of as call_name, NameActions}
 use Rattle.ep_plan_text.specs.PlanFiles.{IsPlan, IsPlanOf}
 use Rattle.ep_base.specs.Texts.{lines}
 use Rattle.ep_plan_text.specs.PlanText.{action_name as name_at, plan_text}
-use Rattle.ep_plan_text.proofs.LayoutLemmas.{whole_pieces, whole_lines, whole_is_split, whole_long, whole_texts, tree_of}
+use Rattle.ep_plan_text.proofs.LayoutLemmas.{Heading, IsFormedHeading, stated, whole_pieces, whole_lines, whole_is_split, whole_long, whole_texts, tree_of}
+use Rattle.ep_plan_text.proofs.WeightLemmas.{cost_most}
 
 -- ---- names are those of calls
 
@@ -206,43 +210,66 @@ plan_long (c ∷ cs) (a ∷ p) g h = ap suc (plan_long cs p g h.1)
 
 -- ---- the law
 
-module _ (g : GroundTask) (mk : PlanMark) (plan : List ActionId) (named_task : is_name g.tree.name.text ≡ true) (few : length plan ≤ 1000) (chosen : Chosen g plan) where
-  abbrev name : Text
-  name = g.tree.name.text
+-- a stated cost is the plan's
+cost_is : (measure : Measure) (cost : ℕ) → IfSome (stated measure cost) (λ c. c ≡ cost)
+cost_is Length cost = tt
+cost_is Cost cost = refl
+
+cost_formed : (measure : Measure) (cost : ℕ) → cost < 10 ^ 9 → IfSome (stated measure cost) IsFormedCount
+cost_formed Length cost l = tt
+cost_formed Cost cost l = l
+
+-- a spelling states one cost at most
+cost_marks : (cost : Option ℕ) → length (spell.cost cost) ≤ 2
+cost_marks None = omega arith
+cost_marks (Some n) = omega arith
+
+module _ (g : GroundTask) (measure : Measure) (mk : PlanMark) (plan : List ActionId) (named_task : is_name g.tree.name.text ≡ true) (few : length plan ≤ 1000) (cheap : weight g.problem Cost plan ≤ 100 * length plan) (chosen : Chosen g plan) where
+  abbrev heading : Heading
+  heading = record { measure = measure; mark = mk; name = g.tree.name; cost = weight g.problem Cost plan }
 
   abbrev text : List ℕ
-  text = plan_text g mk plan
+  text = plan_text g measure mk plan
 
   tree : PlanTree
-  tree = tree_of name (length plan) chosen.calls
+  tree = tree_of heading (length plan) chosen.calls
 
   small : length plan < 10 ^ 9
   small = omega arith
 
+  cost_small : weight g.problem Cost plan < 10 ^ 9
+  cost_small = omega (arith, few, cheap)
+
+  heading_formed : IsFormedHeading heading
+  heading_formed = record { name = named_task; cost = cost_small }
+
   formed : IsFormedPlan tree
   unfolding tree
-  formed = (named_task, small, chosen.formed)
+  formed = (named_task, cost_formed measure (weight g.problem Cost plan) cost_small, small, chosen.formed)
 
   abbrev tokens : List Token
-  tokens = tokens_behind [] (whole_pieces name mk (length plan) chosen.calls)
+  tokens = tokens_behind [] (whole_pieces heading (length plan) chosen.calls)
 
-  split : Split text (whole_pieces name mk (length plan) chosen.calls)
-  split = subst (λ z. Split (lines (whole_lines name mk (length plan) z)) (whole_pieces name mk (length plan) chosen.calls)) chosen.names
-      (whole_is_split name mk (length plan) chosen.calls named_task small chosen.formed)
+  split : Split text (whole_pieces heading (length plan) chosen.calls)
+  split = subst (λ z. Split (lines (whole_lines heading (length plan) z)) (whole_pieces heading (length plan) chosen.calls)) chosen.names
+      (whole_is_split heading (length plan) chosen.calls heading_formed small chosen.formed)
 
   are_tokens : AreTokens text tokens
-  are_tokens = record { pieces = whole_pieces name mk (length plan) chosen.calls; split = split; tokens_are = refl }
+  are_tokens = record { pieces = whole_pieces heading (length plan) chosen.calls; split = split; tokens_are = refl }
 
   spelled : spellings text tokens ≡ spelling_of plans tree
   unfolding tree
-  spelled = spellings-are text tokens (whole_pieces name mk (length plan) chosen.calls) are_tokens split ∙ whole_texts name mk (length plan) chosen.calls
+  spelled = spellings-are text tokens (whole_pieces heading (length plan) chosen.calls) are_tokens split ∙ whole_texts heading (length plan) chosen.calls
 
   calls_few : length chosen.calls ≤ 1000
   calls_few = omega (arith, plan_long chosen.calls plan g chosen.named)
 
   few_marks : length (spell.plan tree) ≤ MOST_TOKENS
   unfolding tree
-  few_marks = omega (arith, calls_long chosen.calls chosen.short, calls_few, length-append (flat_map spell.call chosen.calls) (fixed the.End ∷ []))
+  few_marks =
+      let calls = flat_map spell.call chosen.calls ++ fixed the.End ∷ [] in
+      let cost = stated measure (weight g.problem Cost plan) in
+      omega (arith, calls_long chosen.calls chosen.short, calls_few, cost_marks cost, length-append (flat_map spell.call chosen.calls) (fixed the.End ∷ []), length-append (spell.cost cost) (fixed the.Actions ∷ spell.count (length plan) ∷ calls))
 
   few_tokens : length tokens ≤ MOST_TOKENS
   few_tokens =
@@ -265,10 +292,12 @@ module _ (g : GroundTask) (mk : PlanMark) (plan : List ActionId) (named_task : i
   is_plan_of =
       let calls : map bare_call read.calls ≡ map bare_call chosen.calls = ap (λ z. z.calls) same in
       let named = named_same g read.calls chosen.calls plan calls chosen.named in
+      let cost : read.cost ≡ stated measure (weight g.problem Cost plan) = ap (λ z. z.cost) same in
       record {
         task = ap (λ z. z.task.text) same;
         named = named;
         count = ap (λ z. z.count) same ∙ sym (plan_long read.calls plan g named);
+        cost = subst (λ z. IfSome z (λ c. c ≡ weight g.problem Cost plan)) (sym cost) (cost_is measure (weight g.problem Cost plan));
       }
 
   pub is_read_again : IsPlan g text plan
@@ -281,24 +310,24 @@ module _ (g : GroundTask) (mk : PlanMark) (plan : List ActionId) (named_task : i
 
   pub is_short : length text ≤ MOST_BYTES
   is_short =
-      let long = whole_long g.tree.name mk (length plan) chosen.calls named_task small chosen.formed chosen.short in
-      let same : length (lines (whole_lines name mk (length plan) (map call_name chosen.calls))) ≡ length text = ap (λ z. length (lines (whole_lines name mk (length plan) z))) chosen.names in
+      let long = whole_long heading (length plan) chosen.calls heading_formed small chosen.formed chosen.short in
+      let same : length (lines (whole_lines heading (length plan) (map call_name chosen.calls))) ≡ length text = ap (λ z. length (lines (whole_lines heading (length plan) z))) chosen.names in
       omega (arith, long, same, calls_few)
 
-read_tree : (t : TaskTree) (mk : PlanMark) (plan : List ActionId) → HasNoFault t → IsRead t → length plan ≤ 1000 → All (λ a. a.n < length (task_of t).actions) plan
-    → IsPlan (task_of t) (plan_text (task_of t) mk plan) plan
-read_tree t mk plan fine read few all = is_read_again (task_of t) mk plan read.formed.0 few (choose (task_of t) plan (task_calls t fine read) all)
+read_tree : (t : TaskTree) (measure : Measure) (mk : PlanMark) (plan : List ActionId) → HasNoFault t → IsRead t → length plan ≤ 1000 → All (λ a. a.n < length (task_of t).actions) plan
+    → IsPlan (task_of t) (plan_text (task_of t) measure mk plan) plan
+read_tree t measure mk plan fine read few all = is_read_again (task_of t) measure mk plan read.formed.0 few (cost_most t plan read) (choose (task_of t) plan (task_calls t fine read) all)
 
-short_tree : (t : TaskTree) (mk : PlanMark) (plan : List ActionId) → HasNoFault t → IsRead t → length plan ≤ 1000 → All (λ a. a.n < length (task_of t).actions) plan
-    → length (plan_text (task_of t) mk plan) ≤ MOST_BYTES
-short_tree t mk plan fine read few all = is_short (task_of t) mk plan read.formed.0 few (choose (task_of t) plan (task_calls t fine read) all)
+short_tree : (t : TaskTree) (measure : Measure) (mk : PlanMark) (plan : List ActionId) → HasNoFault t → IsRead t → length plan ≤ 1000 → All (λ a. a.n < length (task_of t).actions) plan
+    → length (plan_text (task_of t) measure mk plan) ≤ MOST_BYTES
+short_tree t measure mk plan fine read few all = is_short (task_of t) measure mk plan read.formed.0 few (cost_most t plan read) (choose (task_of t) plan (task_calls t fine read) all)
 
-pub read_again : (g : GroundTask) (mk : PlanMark) (plan : List ActionId) → IsWhole g → length plan ≤ 1000 → All (λ a. a.n < length g.actions) plan → IsPlan g (plan_text g mk plan) plan
-read_again g mk plan whole few all =
-    subst (λ (h : GroundTask). IsPlan h (plan_text h mk plan) plan) (sym whole.task)
-    (read_tree g.tree mk plan whole.typed whole.read few (subst (λ (h : GroundTask). All (λ (a : ActionId). a.n < length h.actions) plan) whole.task all))
+pub read_again : (g : GroundTask) (measure : Measure) (mk : PlanMark) (plan : List ActionId) → IsWhole g → length plan ≤ 1000 → All (λ a. a.n < length g.actions) plan → IsPlan g (plan_text g measure mk plan) plan
+read_again g measure mk plan whole few all =
+    subst (λ (h : GroundTask). IsPlan h (plan_text h measure mk plan) plan) (sym whole.task)
+    (read_tree g.tree measure mk plan whole.typed whole.read few (subst (λ (h : GroundTask). All (λ (a : ActionId). a.n < length h.actions) plan) whole.task all))
 
-pub text_short : (g : GroundTask) (mk : PlanMark) (plan : List ActionId) → IsWhole g → length plan ≤ 1000 → All (λ a. a.n < length g.actions) plan → length (plan_text g mk plan) ≤ MOST_BYTES
-text_short g mk plan whole few all =
-    subst (λ (h : GroundTask). length (plan_text h mk plan) ≤ MOST_BYTES) (sym whole.task)
-    (short_tree g.tree mk plan whole.typed whole.read few (subst (λ (h : GroundTask). All (λ (a : ActionId). a.n < length h.actions) plan) whole.task all))
+pub text_short : (g : GroundTask) (measure : Measure) (mk : PlanMark) (plan : List ActionId) → IsWhole g → length plan ≤ 1000 → All (λ a. a.n < length g.actions) plan → length (plan_text g measure mk plan) ≤ MOST_BYTES
+text_short g measure mk plan whole few all =
+    subst (λ (h : GroundTask). length (plan_text h measure mk plan) ≤ MOST_BYTES) (sym whole.task)
+    (short_tree g.tree measure mk plan whole.typed whole.read few (subst (λ (h : GroundTask). All (λ (a : ActionId). a.n < length h.actions) plan) whole.task all))

@@ -5,4 +5,5 @@ pub mod AnswerLemmas
 pub mod LayoutLemmas
 pub mod LawLemmas
 pub mod LineLemmas
+pub mod WeightLemmas
 pub mod CallerLemmas

@@ -1,5 +1,5 @@
 -- A plan file has one tree, whose calls stand at its tokens.
-use Rattle.std.proofs.Common.{◌≡◌, ℕ, suc, ◌+◌, ◌≤◌, ◌<◌, List, [], ◌∷◌, ◌++◌, length, map, All, refl, sym, ap, ◌∙◌, subst, arith, length-append}
+use Rattle.std.proofs.Common.{◌≡◌, ℕ, suc, ◌+◌, ◌≤◌, ◌<◌, List, [], ◌∷◌, ◌++◌, length, map, Option, All, refl, sym, ap, ◌∙◌, subst, arith, length-append}
 use Rattle.std.specs.List.{flat_map}
 use Rattle.std.proofs.lemmas.List.Elements.{All-nil, All-cons}
 use Rattle.ep_lex.specs.Tokens.{Lexed, spellings}
@@ -87,12 +87,26 @@ calls_same place (c ∷ cs) (d ∷ ds) e p q =
 abbrev close : List Mark
 close = fixed the.End ∷ []
 
+-- where the calls begin
+abbrev calls_at : Option ℕ → ℕ
+calls_at cost = 4 + length (spell.cost cost) + 1 + 1
+
+-- the calls of a plan and the end stand behind the first tokens
+calls_behind : (p : PlanTree) → PlacedFrom 0 (spell.plan p) → PlacedFrom (calls_at p.cost) (flat_map spell.call p.calls ++ close)
+calls_behind p x =
+    (placed_behind 4 (spell.cost p.cost) (fixed the.Actions ∷ spell.count p.count ∷ (flat_map spell.call p.calls ++ close)) x.1.1.1.1).1.1
+
+calls_here : (p : PlanTree) → PlacedFrom 0 (spell.plan p) → PlacedFrom (calls_at p.cost) (flat_map spell.call p.calls)
+calls_here p x = placed_first (calls_at p.cost) (flat_map spell.call p.calls) close (calls_behind p x)
+
 plan_same : (p q : PlanTree) → bare_plan p ≡ bare_plan q → PlacedFrom 0 (spell.plan p) → PlacedFrom 0 (spell.plan q) → p ≡ q
 plan_same p q e x y =
     let t = name_same p.task q.task 3 (ap (λ z. z.task) e) x.1.1.1.0 y.1.1.1.0 in
+    let k : p.cost ≡ q.cost = ap (λ z. z.cost) e in
     let n : p.count ≡ q.count = ap (λ z. z.count) e in
-    let cs = calls_same 6 p.calls q.calls (ap (λ z. z.calls) e) (placed_first 6 (flat_map spell.call p.calls) close x.1.1.1.1.1.1) (placed_first 6 (flat_map spell.call q.calls) close y.1.1.1.1.1.1) in
-    λ i. record { task = t i; count = n i; calls = cs i }
+    let there = subst (λ z. PlacedFrom (calls_at z) (flat_map spell.call q.calls)) (sym k) (calls_here q y) in
+    let cs = calls_same (calls_at p.cost) p.calls q.calls (ap (λ z. z.calls) e) (calls_here p x) there in
+    λ i. record { task = t i; cost = k i; count = n i; calls = cs i }
 
 pub tree_same : (ts : List (List ℕ)) (p q : PlanTree) → Reads plans ts p → Reads plans ts q → p ≡ q
 tree_same ts p q x y = plan_same p q (sym (only_same plans ts plan (plan_outcome ts) p x.formed x.shallow x.spelled q y)) x.placed y.placed
@@ -126,14 +140,17 @@ pub record AreAmong (n : ℕ) (tree : PlanTree) : Type 0 where
   pub places : All (λ c. c.name.token < n) tree.calls
   pub few : length tree.calls ≤ n
 
-plan_long : (tree : PlanTree) → 6 + length (flat_map spell.call tree.calls) ≤ length (spell.plan tree)
-plan_long tree = omega (arith, length-append (flat_map spell.call tree.calls) close)
+plan_long : (tree : PlanTree) → calls_at tree.cost + length (flat_map spell.call tree.calls) ≤ length (spell.plan tree)
+plan_long tree =
+    let calls = flat_map spell.call tree.calls ++ close in
+    let behind_cost = fixed the.Actions ∷ spell.count tree.count ∷ calls in
+    omega (arith, length-append (flat_map spell.call tree.calls) close, length-append (spell.cost tree.cost) behind_cost)
 
 pub calls_among : (ts : List (List ℕ)) (tree : PlanTree) → Reads plans ts tree → AreAmong (length ts) tree
 calls_among ts tree r =
     let long : length (spell.plan tree) ≡ length ts = sym (length-texts (spell.plan tree)) ∙ ap length r.spelled in
     let whole = plan_long tree in
-    let places = calls_placed 6 tree.calls (placed_first 6 (flat_map spell.call tree.calls) close r.placed.1.1.1.1.1.1) in
+    let places = calls_placed (calls_at tree.cost) tree.calls (calls_here tree r.placed) in
     record {
       places = λ k d l. omega (arith, places k d l, whole, long);
       few = omega (arith, calls_few tree.calls, whole, long);

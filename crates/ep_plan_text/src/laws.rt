@@ -1,6 +1,7 @@
 //! What the texts of plans are read as.
 
 ghost use Rattle.std.specs.Prelude.{◌≡◌, ◌≢◌, ℕ, ◌<◌, ◌≤◌, List, All, AllPairs, length};
+ghost use Rattle.ep_bounds.specs.declared.bounds.Measure.{Measure};
 ghost use Rattle.ep_bounds.specs.declared.bounds.TheConstants.{MOST_ACTIONS};
 ghost use Rattle.ep_lex.specs.declared.limits.TheConstants.{MOST_BYTES};
 ghost use Rattle.ep_logic.specs.declared.ids.ActionId.{ActionId};
@@ -12,14 +13,14 @@ ghost use Rattle.ep_plan_text.specs.declared.print.Mark.{Mark};
 ghost use Rattle.ep_plan_text.specs.declared.read.PlanError.{PlanError};
 
 /// The text of a plan of a ground task, of no more actions than a search may be bounded to, is a plan file of the task
-/// with this plan, whatever the mark, and short enough to be read.
+/// with this plan, whatever the measure and the mark, and short enough to be read.
 pub fn a_plan_is_read_again()
-    ensures read { (g : GroundTask) (mark : Mark) (plan : List ActionId) → IsWhole g → length plan ≤ MOST_ACTIONS →
+    ensures read { (g : GroundTask) (measure : Measure) (mark : Mark) (plan : List ActionId) → IsWhole g → length plan ≤ MOST_ACTIONS →
         All (λ a. a.n < length g.actions) plan →
-        IsPlan g (plan_text g mark plan) plan }
-    ensures short { (g : GroundTask) (mark : Mark) (plan : List ActionId) → IsWhole g → length plan ≤ MOST_ACTIONS →
+        IsPlan g (plan_text g measure mark plan) plan }
+    ensures short { (g : GroundTask) (measure : Measure) (mark : Mark) (plan : List ActionId) → IsWhole g → length plan ≤ MOST_ACTIONS →
         All (λ a. a.n < length g.actions) plan →
-        length (plan_text g mark plan) ≤ MOST_BYTES }
+        length (plan_text g measure mark plan) ≤ MOST_BYTES }
 {}
 
 /// In a ground task whose action names differ, bytes are one plan at most, have one fault at most, and not both.

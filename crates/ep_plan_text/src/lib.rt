@@ -1,6 +1,7 @@
 //! Plan files of ground tasks: their reader, and the texts of plans.
 #![tactic(auto)]
 
+mod costs;
 pub mod laws;
 mod print;
 mod read;

@@ -1,14 +1,19 @@
 //! The texts of plans.
 
-ghost use Rattle.std.specs.Prelude.{◌≡◌, ◌<◌, ◌++◌, All, IfOk, IsTrue, OnOk, codes, length, map};
+ghost use Rattle.std.specs.Prelude.{◌≡◌, ◌<◌, ◌≤◌, ◌++◌, All, IfOk, IsTrue, OnOk, length, map};
 ghost use Rattle.std.specs.Fmt.{decimal};
 ghost use Rattle.std.specs.Char.{is_ascii};
 ghost use Rattle.std.specs.List.{list_all};
 ghost use Rattle.ep_plan_text.specs.PlanText as spec;
 ghost use Rattle.ep_base.specs.Texts.{line, lines};
-ghost use Rattle.ep_plan_text.specs.PlanText.{mark_lines, plan_text};
+ghost use Rattle.ep_bounds.specs.declared.bounds.Measure.TheVariants.{Cost};
+ghost use Rattle.ep_bounds.specs.declared.bounds.TheConstants.{MOST_PLAN_ACTIONS};
+ghost use Rattle.ep_theory.specs.Plans.{weight};
+ghost use Rattle.ep_plan_text.specs.PlanText.{cost_lines, mark_lines, plan_text, version_line};
 
+use crate::costs::sum_costs;
 use ep_base::{OutOfMemory, Text, TextBuilder};
+use ep_bounds::Measure;
 use ep_ground::{Plan, Task};
 use std::alloc::Global;
 
@@ -16,8 +21,8 @@ use std::alloc::Global;
 #[derive(Clone, Copy, Debug, PartialEq, Eq)]
 pub enum Mark {
     Plain,
-    /// No plan is shorter.
-    Shortest,
+    /// No plan measures less.
+    Least,
     /// A plan was found.
     Found,
 }
@@ -33,24 +38,58 @@ fn push_line(text: &mut TextBuilder, word: &str, rest: &[u8]) -> Result<(), OutO
     text.push("\n")
 }
 
-fn mark_line(text: &mut TextBuilder, mark: Mark) -> Result<(), OutOfMemory>
-    ensures { OnOk result (text.new ≡ text.old ++ lines (mark_lines mark)) }
+fn push_version(text: &mut TextBuilder, measure: Measure) -> Result<(), OutOfMemory>
+    ensures { OnOk result (text.new ≡ text.old ++ line (version_line measure)) }
 {
-    match mark {
-        Mark::Plain => Ok(()),
-        Mark::Shortest => push_line(text, "# shortest", &[]),
-        Mark::Found => push_line(text, "# found", &[]),
+    match measure {
+        Measure::Length => push_line(text, "plan 1", &[]),
+        Measure::Cost => push_line(text, "plan 2", &[]),
     }
 }
 
-fn count_line(alloc: Global, text: &mut TextBuilder, count: usize) -> Result<(), OutOfMemory>
-    ensures { OnOk result (text.new ≡ text.old ++ line (codes "actions " ++ decimal count)) }
+fn push_mark(text: &mut TextBuilder, measure: Measure, mark: Mark) -> Result<(), OutOfMemory>
+    ensures { OnOk result (text.new ≡ text.old ++ lines (mark_lines measure mark)) }
 {
-    let digits = format!(in alloc; "{count}")?;
-    push_line(text, "actions ", digits.as_bytes())
+    match (mark, measure) {
+        (Mark::Plain, _) => Ok(()),
+        (Mark::Least, Measure::Length) => push_line(text, "# shortest", &[]),
+        (Mark::Least, Measure::Cost) => push_line(text, "# cheapest", &[]),
+        (Mark::Found, _) => push_line(text, "# found", &[]),
+    }
 }
 
-fn action_lines(text: &mut TextBuilder, task: &Task, plan: &Plan) -> Result<(), OutOfMemory>
+/// Adds the line of a word and a number in decimal.
+fn push_number(
+    alloc: Global,
+    text: &mut TextBuilder,
+    word: &str,
+    number: u32,
+) -> Result<(), OutOfMemory>
+    requires { IsTrue (list_all is_ascii word.now) }
+    ensures { OnOk result (text.new ≡ text.old ++ line (word.now ++ decimal number)) }
+{
+    let digits = format!(in alloc; "{number}")?;
+    push_line(text, word, digits.as_bytes())
+}
+
+fn push_cost(
+    alloc: Global,
+    text: &mut TextBuilder,
+    task: &Task,
+    plan: &Plan,
+    measure: Measure,
+) -> Result<(), OutOfMemory>
+    requires actions { All (λ a. a.n < length task.now.actions) plan.now }
+    requires few { length plan.now ≤ MOST_PLAN_ACTIONS }
+    ensures { OnOk result (text.new ≡ text.old ++ lines (cost_lines measure (weight task.now.problem Cost plan.now))) }
+{
+    match measure {
+        Measure::Length => Ok(()),
+        Measure::Cost => push_number(alloc, text, "cost ", sum_costs(task, plan)),
+    }
+}
+
+fn push_names(text: &mut TextBuilder, task: &Task, plan: &Plan) -> Result<(), OutOfMemory>
     requires { All (λ a. a.n < length task.now.actions) plan.now }
     ensures { OnOk result (text.new ≡ text.old ++ lines (map (spec.action_name task.now) plan.now)) }
 {
@@ -60,18 +99,27 @@ fn action_lines(text: &mut TextBuilder, task: &Task, plan: &Plan) -> Result<(), 
     Ok(())
 }
 
-/// The text of a plan, as a plan file: `plan 1`, the task, the mark as a comment, the number of actions, their printed names
-/// and `end`, a line each. Each action is the task's.
-pub fn print_plan(alloc: Global, task: &Task, plan: &Plan, mark: Mark) -> Result<Text, OutOfMemory>
-    requires { All (λ a. a.n < length task.now.actions) plan.now }
-    ensures { IfOk result (λ text. text ≡ plan_text task.now mark plan.now) }
+/// The text of a plan, as a plan file: the version, the task, the mark as a comment, under `Measure::Cost` the plan's cost,
+/// the number of actions, their printed names and `end`, a line each. The version is 1 under `Measure::Length` and 2 under
+/// `Measure::Cost`. Each action is the task's.
+pub fn print_plan(
+    alloc: Global,
+    task: &Task,
+    plan: &Plan,
+    mark: Mark,
+    measure: Measure,
+) -> Result<Text, OutOfMemory>
+    requires actions { All (λ a. a.n < length task.now.actions) plan.now }
+    requires few { length plan.now ≤ MOST_PLAN_ACTIONS }
+    ensures text { IfOk result (λ text. text ≡ plan_text task.now measure mark plan.now) }
 {
     let mut text = TextBuilder::new(alloc);
-    push_line(&mut text, "plan 1", &[])?;
+    push_version(&mut text, measure)?;
     push_line(&mut text, "task ", task.name().as_slice())?;
-    mark_line(&mut text, mark)?;
-    count_line(alloc, &mut text, plan.as_slice().len())?;
-    action_lines(&mut text, task, plan)?;
+    push_mark(&mut text, measure, mark)?;
+    push_cost(alloc, &mut text, task, plan, measure)?;
+    push_number(alloc, &mut text, "actions ", plan.as_slice().len() as u32)?;
+    push_names(&mut text, task, plan)?;
     push_line(&mut text, "end", &[])?;
     Ok(text.finish())
 }
@@ -82,6 +130,6 @@ pub fn print_actions(alloc: Global, task: &Task, plan: &Plan) -> Result<Text, Ou
     ensures { IfOk result (λ text. text ≡ lines (map (spec.action_name task.now) plan.now)) }
 {
     let mut text = TextBuilder::new(alloc);
-    action_lines(&mut text, task, plan)?;
+    push_names(&mut text, task, plan)?;
     Ok(text.finish())
 }

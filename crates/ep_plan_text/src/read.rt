@@ -1,6 +1,6 @@
 //! The reader of plan files.
 
-ghost use Rattle.std.specs.Prelude.{◌≡◌, ℕ, ◌<◌, ◌≤◌, ◌⊎◌, List, All, IfErr, IfOk, Ok, Err, length};
+ghost use Rattle.std.specs.Prelude.{◌≡◌, ℕ, ◌<◌, ◌≤◌, ◌⊎◌, List, All, IfErr, IfOk, OnOk, Ok, Err, length};
 ghost use Rattle.ep_base.specs.Refusals.{OrWant};
 ghost use Rattle.ep_lex.specs.Tokens.{line_at};
 ghost use Rattle.ep_lex.specs.declared.limits.TheConstants.{MOST_BYTES, MOST_TOKENS};
@@ -8,11 +8,12 @@ ghost use Rattle.ep_tree.specs.Grammar.{plans};
 ghost use Rattle.ep_reader.specs.Texts.{IsTextOf};
 ghost use Rattle.ep_logic.specs.declared.ids.ActionId.{ActionId};
 ghost use Rattle.ep_plan_text.specs.Calls.{NameActions, name_of};
-ghost use Rattle.ep_plan_text.specs.PlanFiles.{IsFault, IsFileFault, IsPlan, IsPlanOf, IsTreeFault, IsUnknownAt};
+ghost use Rattle.ep_plan_text.specs.PlanFiles.{IsFault, IsFileFault, IsOfTask, IsPlan, IsPlanOf, IsTreeFault, IsUnknownAt};
 ghost use Rattle.ep_plan_text.specs.declared.read.PlanError.{PlanError};
 ghost use Rattle.ep_plan_text.specs.declared.read.PlanError.TheVariants.{OutOfMemory, UnknownAction};
 ghost use Rattle.ep_name.specs.Names.{mark_before};
 
+use crate::costs::sum_costs;
 use ep_ground::{Plan, Task};
 use ep_lex::TokenList;
 use ep_logic::{List, OutOfMemory as NoMemory};
@@ -37,6 +38,8 @@ pub enum PlanError {
     UnknownAction { line: u32 },
     /// The plan states another number of calls than it lists.
     WrongCount { stated: u32, listed: u32 },
+    /// The plan states another cost than the sum of its actions' costs.
+    WrongCost { stated: u32, summed: u32 },
     OutOfMemory,
 }
 
@@ -52,6 +55,12 @@ impl fmt::Display for PlanError {
             PlanError::UnknownAction { line } => write!(f, "unknown action at line {line}"),
             PlanError::WrongCount { stated, listed } => {
                 write!(f, "{stated} actions are stated and {listed} listed")
+            }
+            PlanError::WrongCost { stated, summed } => {
+                write!(
+                    f,
+                    "the cost {stated} is stated and the actions cost {summed}"
+                )
             }
             PlanError::OutOfMemory => write!(f, "out of memory"),
         }
@@ -138,6 +147,32 @@ fn named_actions(
     Ok(plan)
 }
 
+/// Compares the stated number of calls and the stated cost with the plan's.
+fn check_numbers(task: &Task, tree: &PlanTree, plan: &Plan) -> Result<(), PlanError>
+    requires few { length tree.now.calls ≤ MOST_TOKENS }
+    requires task { IsOfTask task.now tree.now }
+    requires named { NameActions task.now tree.now.calls plan.now }
+    requires only { (other : List ActionId) → NameActions task.now tree.now.calls other → other ≡ plan.now }
+    ensures plan { OnOk result (IsPlanOf task.now tree.now plan.now) }
+    ensures fault { (line_of_token : ℕ → ℕ) → IfErr result (IsTreeFault task.now line_of_token tree.now) }
+{
+    let listed = tree.calls.as_slice().len() as u32;
+    if tree.count != listed {
+        return Err(PlanError::WrongCount {
+            stated: tree.count,
+            listed,
+        });
+    }
+    let Some(stated) = tree.cost else {
+        return Ok(());
+    };
+    let summed = sum_costs(task, plan);
+    if stated != summed {
+        return Err(PlanError::WrongCost { stated, summed });
+    }
+    Ok(())
+}
+
 /// The plan of a file that is read.
 fn judged(alloc: Global, task: &Task, file: &ParsedText<PlanTree>) -> Result<Plan, PlanError>
     requires places { All (λ call. call.name.token < length file.now.tokens.tokens) file.now.tree.calls }
@@ -150,15 +185,8 @@ fn judged(alloc: Global, task: &Task, file: &ParsedText<PlanTree>) -> Result<Pla
     if tree.task.text.as_slice() != task.name().as_slice() {
         return Err(PlanError::OtherTask);
     }
-    let calls = tree.calls.as_slice();
-    let plan = named_actions(alloc, task, &file.tokens, calls)?;
-    let listed = calls.len() as u32;
-    if tree.count != listed {
-        return Err(PlanError::WrongCount {
-            stated: tree.count,
-            listed,
-        });
-    }
+    let plan = named_actions(alloc, task, &file.tokens, tree.calls.as_slice())?;
+    check_numbers(task, tree, &plan)?;
     Ok(plan)
 }
 

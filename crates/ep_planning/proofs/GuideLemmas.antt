@@ -4,6 +4,7 @@ use Rattle.std.proofs.lemmas.Option.{slice_get-get_or}
 use Rattle.std.proofs.lemmas.Grind.{get_or-set_at}
 use Rattle.std.proofs.lemmas.List.{length-set}
 use Rattle.ep_base.specs.Counts.{Rose}
+use Rattle.ep_bounds.specs.declared.bounds.Measure.TheVariants.{Length}
 use Rattle.ep_logic.specs.declared.ids.ActionId.{ActionId}
 use Rattle.ep_tree.specs.declared.tree.CallTree.{CallTree}
 use Rattle.ep_ground.specs.Task.{GroundTask}
@@ -29,15 +30,15 @@ no_calls : (g : GroundTask) (calls : List CallTree) → NameActions g calls [] �
 no_calls g [] h = refl
 no_calls g (c ∷ cs) h = absurd h
 
-empty_lists_none : (g : GroundTask) (m : Mark) → IsWhole g → ListsACall (plan_text g m []) → ⊥
+empty_lists_none : (g : GroundTask) (m : Mark) → IsWhole g → ListsACall (plan_text g Length m []) → ⊥
 empty_lists_none g m w l =
     let none : All (λ (a : ActionId). a.n < length g.actions) [] = λ k d below. absurd (omega (arith, below)) in
-    let here : IsPlan g (plan_text g m []) [] = read_again g m [] w (omega arith) none in
-    let same : here.tree ≡ l.tree = file_trees (plan_text g m []) here.found l.found here.tree l.tree here.file l.file in
+    let here : IsPlan g (plan_text g Length m []) [] = read_again g Length m [] w (omega arith) none in
+    let same : here.tree ≡ l.tree = file_trees (plan_text g Length m []) here.found l.found here.tree l.tree here.file l.file in
     l.lists (subst (λ t. t.calls ≡ []) same (no_calls g here.tree.calls here.plan_of.named))
 
-empty_plan_needs_none : (g : GroundTask) (m : Mark) (p : List ActionId) → IsWhole g → ListsACall (plan_text g m p) → p ≡ [] → ⊥
-empty_plan_needs_none g m p w l e = empty_lists_none g m w (subst (λ q. ListsACall (plan_text g m q)) e l)
+empty_plan_needs_none : (g : GroundTask) (m : Mark) (p : List ActionId) → IsWhole g → ListsACall (plan_text g Length m p) → p ≡ [] → ⊥
+empty_plan_needs_none g m p w l e = empty_lists_none g m w (subst (λ q. ListsACall (plan_text g Length m q)) e l)
 
 -- ---- answers of the search
 
@@ -47,7 +48,7 @@ no_guide_needs_none n = absurd n
 
 found_was_asked : (g : GroundTask) (d : ℕ) (a : Found) (before after : ℕ) → IsWhole g → WasAsked d a before after → 1 ≤ d → AnswerNeeds (OfSearch (planned_of g d a)) → Rose before after
 unfolding AnswerNeeds
-found_was_asked g d (found.Shortest p) before after w asked some needs = asked (empty_plan_needs_none g mark.Shortest p w needs)
+found_was_asked g d (found.Shortest p) before after w asked some needs = asked (empty_plan_needs_none g mark.Least p w needs)
 found_was_asked g d (found.Found p) before after w asked some needs = asked (empty_plan_needs_none g mark.Found p w needs)
 found_was_asked g d found.NoneTo before after w asked some needs = asked some
 found_was_asked g d found.ManyStates before after w asked some needs = absurd needs

@@ -1,5 +1,5 @@
 -- Answers of the search as answers of planning.
-use Rattle.std.proofs.Common.{◌≡◌, ◌<◌, ℕ, zero, suc, All, Bool, List, [], ◌∷◌, length, Option, Some, None, slice_get, option_and_then, refl, subst, arith}
+use Rattle.std.proofs.Common.{◌≡◌, ◌<◌, ◌≤◌, ℕ, zero, suc, All, Bool, List, [], ◌∷◌, length, Option, Some, None, slice_get, option_and_then, refl, subst, arith}
 use Rattle.std.proofs.lemmas.Option.{none-some, slice_get_within}
 use Rattle.ep_logic.specs.declared.ids.ActionId.{ActionId}
 use Rattle.ep_theory.specs.Kripke.{Kripke}
@@ -11,6 +11,7 @@ use Rattle.ep_search.specs.declared.answer.Answer.{Answer as Found}
 use Rattle.ep_search.specs.declared.answer.Answer.TheVariants as found
 use Rattle.ep_bounds.specs.declared.bounds.Mode.{Mode}
 use Rattle.ep_bounds.specs.declared.bounds.Bounds.{Bounds}
+use Rattle.ep_bounds.specs.declared.bounds.TheConstants.{MOST_ACTIONS}
 use Rattle.ep_ground.specs.Task.{GroundTask}
 use Rattle.ep_answer.specs.declared.status.Status.{Status}
 use Rattle.ep_answer.specs.declared.answer.Answer.TheVariants.{OfSearch}
@@ -45,12 +46,12 @@ actions_of_run T (a ∷ p) S R h =
 actions_of_plan : (g : GroundTask) (p : List ActionId) (S : Kripke) → length g.actions ≡ length g.problem.actions → after g.problem p ≡ Some S → AreItsActions g p
 actions_of_plan g p S e h = λ k d l. let below = actions_of_run g.problem p g.problem.initial S h k d l in omega (arith, below, e)
 
-pub allowed_has_actions : (g : GroundTask) (d n w : ℕ) (m : Mode) (a : Found) → length g.actions ≡ length g.problem.actions → Allowed g.problem d n w m a → HasItsActions g a
-allowed_has_actions g d n w m (found.Shortest p) e h = actions_of_plan g p h.1.reaches.state e h.1.reaches.is_after
-allowed_has_actions g d n w m (found.Found p) e h = actions_of_plan g p h.reaches.state e h.reaches.is_after
-allowed_has_actions g d n w m found.NoneTo e h = tt
-allowed_has_actions g d n w m found.ManyStates e h = tt
-allowed_has_actions g d n w m (found.Wide p) e h = actions_of_plan g p h.within.state e h.within.is_after
+pub allowed_has_actions : (g : GroundTask) (d n w : ℕ) (m : Mode) (a : Found) → d ≤ MOST_ACTIONS → length g.actions ≡ length g.problem.actions → Allowed g.problem d n w m a → HasItsActions g a
+allowed_has_actions g d n w m (found.Shortest p) few e h = (actions_of_plan g p h.1.reaches.state e h.1.reaches.is_after, omega (arith, few, h.1.short))
+allowed_has_actions g d n w m (found.Found p) few e h = (actions_of_plan g p h.reaches.state e h.reaches.is_after, omega (arith, few, h.short))
+allowed_has_actions g d n w m found.NoneTo few e h = tt
+allowed_has_actions g d n w m found.ManyStates few e h = tt
+allowed_has_actions g d n w m (found.Wide p) few e h = actions_of_plan g p h.within.state e h.within.is_after
 
 -- ---- answers of planning
 

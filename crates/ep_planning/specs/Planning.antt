@@ -1,5 +1,6 @@
 -- What `plan` answers for its ground task.
-use Rattle.std.specs.Prelude.{◌≡◌, ◌⊎◌, ℕ, ◌<◌, ⊤, length, map, ◌≤◌}
+use Rattle.std.specs.Prelude.{◌≡◌, ◌⊎◌, ℕ, ◌<◌, ⊤, List, length, map, ◌≤◌}
+use Rattle.ep_logic.specs.declared.ids.ActionId.{ActionId}
 use Rattle.ep_ground.specs.Task.{GroundTask}
 use Rattle.ep_base.specs.Texts.{lines}
 use Rattle.ep_plan_text.specs.PlanText.{action_name, plan_text}
@@ -8,7 +9,9 @@ use Rattle.ep_search.specs.Allowed.{Allowed}
 use Rattle.ep_search.specs.declared.answer.Answer.{Answer as Found}
 use Rattle.ep_search.specs.declared.answer.Answer.TheVariants as found
 use Rattle.ep_bounds.specs.declared.bounds.Bounds.{Bounds}
+use Rattle.ep_bounds.specs.declared.bounds.Measure.TheVariants.{Length}
 use Rattle.ep_bounds.specs.declared.bounds.Mode.{Mode}
+use Rattle.ep_bounds.specs.declared.bounds.TheConstants.{MOST_PLAN_ACTIONS}
 use Rattle.ep_answer.specs.declared.answer.Answer.TheVariants.{OfSearch, NoSuchGuide}
 use Rattle.ep_answer.specs.declared.planned.Planned.{Planned}
 use Rattle.ep_answer.specs.declared.planned.Planned.TheVariants as planned
@@ -17,16 +20,20 @@ use Rattle.ep_reading.specs.Served.{Outcome, answers}
 
 -- what is told of an answer to depth d
 abbrev pub planned_of : GroundTask → ℕ → Found → Planned
-planned_of g d (found.Shortest p) = planned.Plan (plan_text g mark.Shortest p)
-planned_of g d (found.Found p) = planned.Plan (plan_text g mark.Found p)
+planned_of g d (found.Shortest p) = planned.Plan (plan_text g Length mark.Least p)
+planned_of g d (found.Found p) = planned.Plan (plan_text g Length mark.Found p)
 planned_of g d found.NoneTo = planned.NoneTo d
 planned_of g d found.ManyStates = planned.ManyStates
 planned_of g d (found.Wide p) = planned.WideAfter (length p) (lines (map (action_name g) p))
 
--- each action of the plan of an answer is the task's
+-- each action is the task's, and there are few enough to be printed
+abbrev pub IsPrintable : GroundTask → List ActionId → Type 0
+IsPrintable g p = AreItsActions g p × (length p ≤ MOST_PLAN_ACTIONS)
+
+-- the plan of an answer is of the task's actions, and short enough to be printed
 abbrev pub HasItsActions : GroundTask → Found → Type 0
-HasItsActions g (found.Shortest p) = AreItsActions g p
-HasItsActions g (found.Found p) = AreItsActions g p
+HasItsActions g (found.Shortest p) = IsPrintable g p
+HasItsActions g (found.Found p) = IsPrintable g p
 HasItsActions g found.NoneTo = ⊤
 HasItsActions g found.ManyStates = ⊤
 HasItsActions g (found.Wide p) = AreItsActions g p

@@ -13,7 +13,7 @@ ghost use Rattle.ep_reading.specs.Steps.{OnlyFile, Serves};
 ghost use Rattle.ep_answer.specs.declared.cause.Subject.TheVariants.{Task as OfTask};
 
 use ep_answer::{Answer, Planned, Stop};
-use ep_bounds::{Bounds, Mode};
+use ep_bounds::{Bounds, Measure, Mode};
 use ep_ground::{Problem, Task};
 use ep_guide::Guide;
 use ep_io::Library;
@@ -37,9 +37,13 @@ pub fn planned(
 {
     match found {
         Found::Shortest(plan) => {
-            Ok(Planned::Plan(print_plan(alloc, task, plan, Mark::Shortest)?))
+            let text = print_plan(alloc, task, plan, Mark::Least, Measure::Length)?;
+            Ok(Planned::Plan(text))
         }
-        Found::Found(plan) => Ok(Planned::Plan(print_plan(alloc, task, plan, Mark::Found)?)),
+        Found::Found(plan) => {
+            let text = print_plan(alloc, task, plan, Mark::Found, Measure::Length)?;
+            Ok(Planned::Plan(text))
+        }
         Found::NoneTo => Ok(Planned::NoneTo { depth }),
         Found::ManyStates => Ok(Planned::ManyStates),
         Found::Wide(plan) => Ok(Planned::WideAfter {

@@ -14,8 +14,8 @@ pub use Rattle.ep_reader.proofs.Readers.{Reads, Part, Any, Lacks, Next, pair, th
 pub use Rattle.ep_reader.proofs.Loops.{Going, going_stop, going_end, going_on, going_stops}
 pub use Rattle.ep_reader.proofs.ListLaws.{Agree-heads, StartsWith, each_of, some_each_of, each_part, some_each_part, behind_of, behind-flat_map, listed_of, any_listed_of, keyed_part, behind_part, rest_part, follow_rest, listed_part, any_listed_part, names_part, names_start, any_names_part}
 pub use Rattle.ep_reader.proofs.EnclosedLaws.{within_of, within_reads, within_part, braced_of, braced_part, named_entries_part}
-pub use Rattle.ep_reader.proofs.OptionalLaws.{IsOptional, optional_part}
-pub use Rattle.ep_reader.proofs.CountLaws.{written_count, counts_one, count_part}
+pub use Rattle.ep_reader.proofs.OptionalLaws.{IsOptional, optional_part, IsFlag, flag_part}
+pub use Rattle.ep_reader.proofs.CountLaws.{written_count, counts_of, count_part, counts_within, count_within_part}
 pub use Rattle.ep_reader.proofs.Whole.{IsEmpty, said_deep, said_read_by, decided, whole_outcome}
 pub use Rattle.ep_reader.proofs.Readable.{found, found_reads, found_same, only_same}
 pub use Rattle.ep_reader.proofs.TextLaws.{text_or_fault, text_fault_one, parsed_by}

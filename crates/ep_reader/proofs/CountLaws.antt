@@ -14,7 +14,8 @@ use Rattle.std.proofs.lemmas.List.{take_more}
 use Rattle.ep_lex.specs.declared.token.TokenKind.TheVariants as kind
 use Rattle.ep_lex.specs.declared.token.PieceKind.TheVariants as piece
 use Rattle.ep_lex.specs.Pieces.{is_piece, is_letter, is_digit, is_mark, is_mark_byte}
-use Rattle.ep_reader.specs.Reading.{Token, Syntax, heads, first_token, is_unpadded, is_count, count_at, count}
+use Rattle.ep_reader.specs.Reading.{Token, Syntax, heads, first_token, is_unpadded, is_count, is_count_within, count_at, number_by, count, count_within}
+use Rattle.ep_tree.specs.Formed.{IsFormedCount}
 use Rattle.ep_tree.specs.Grammar.{Grammar}
 use Rattle.ep_tree.specs.Spelling as spell
 use Rattle.ep_reader.proofs.Laws.{Follow, IsRefused, Outcome}
@@ -148,43 +149,91 @@ pub count-not : (n : ℕ) (ts : List Token) (t : Token) → Some t ≡ first_tok
 count-not n [] t e f = absurd (cc)
 count-not n (u ∷ us) t e f = let h : t ≡ u = cc in let g : is_count u ≡ false = ap is_count (sym h) ∙ f in rw g refl
 
+-- ---- counts within bounds
+
+abbrev pub IsWithin : ℕ → ℕ → ℕ → Type 0
+IsWithin least most n = (least ≤ n) × (n ≤ most)
+
+abbrev is_within : ℕ → ℕ → ℕ → Bool
+is_within least most n = nat_le least n && nat_le n most
+
+within_is : (least most n : ℕ) → is_within least most n ≡ true → IsWithin least most n
+within_is least most n e = let p = both_true (nat_le least n) (nat_le n most) e in (leb-true least n p.0, leb-true n most p.1)
+
+is_within-true : (least most n : ℕ) → IsWithin least most n → is_within least most n ≡ true
+is_within-true least most n w = and_true (nat_le least n) (nat_le n most) (le-leb least n w.0) (le-leb n most w.1)
+
+-- ---- numbers that pass a test
+
+abbrev pub counts_of : (ℕ → Type 0) → Grammar ℕ
+counts_of P = record { marks = λ n. spell.count n ∷ []; IsFormed = P; bare = λ n. n }
+
+-- the test passes the counts whose value is such
+record IsTestOf (P : ℕ → Type 0) (test : Token → Bool) : Type 0 where
+  small : (n : ℕ) → P n → n < 10 ^ 9
+  passes : (n : ℕ) → P n → test (decimal n) ≡ true
+  count : (token : Token) → test token ≡ true → is_count token ≡ true
+  such : (token : Token) → test token ≡ true → P (digits_value 10 token)
+
+module _ (P : ℕ → Type 0) (test : Token → Bool) (is : IsTestOf P test) (some : ℕ) (some_such : P some) where
+  none_first : (ts : List Token) → heads test ts ≡ false → (b : ℕ) (more : List Token) → P b → Agree 1 ts (decimal b ∷ more) → ⊥
+  none_first [] e b more f a = a
+  none_first (u ∷ us) e b more f a = false≢true (sym e ∙ ap test a.0 ∙ is.passes b f)
+
+  number_refused : (n : ℕ) (ts : List Token) → heads test ts ≡ false → IsRefused (counts_of P) Any n ts n
+  number_refused n ts e = record {
+    front = [];
+    back = ts;
+    text = refl;
+    at = omega arith;
+    none = λ b more f s a. none_first ts e b more f a;
+    value = some;
+    more = decimal some ∷ [];
+    formed = some_such;
+    begins = refl;
+    shallow = tt;
+  }
+
+  number_read : (n : ℕ) (ts : List Token) → heads test ts ≡ true → Outcome (counts_of P) Any n ts (count_at n ts)
+  number_read n [] e = absurd (false≢true e)
+  number_read n (u ∷ us) e =
+      let w = count_written u (is.count u e) in
+      record {
+        text = ap (λ z. z ∷ us) (sym w.decimal);
+        at = refl;
+        placed = (tt, tt);
+        formed = is.such u e;
+        shallow = (tt, tt);
+        only = λ b more f s a.
+            let same : digits_value 10 u ≡ b = ap (digits_value 10) a.0 ∙ written_value b (is.small b f) in
+            record { bare = same; outlines = ap (λ z. spell.count z ∷ []) same };
+      }
+
+  number_part : {F : Follow} → Part (counts_of P) F (number_by test)
+  number_part = less_part (record {
+    reads = λ n ts. either (heads test ts) (λ e. record { holds = number_read n ts e }) (λ e. record { holds = number_refused n ts e });
+    value = some;
+    formed = some_such;
+  })
+
 -- ---- counts
 
-abbrev pub counts_one : Grammar ℕ
-counts_one = record { marks = λ n. spell.count n ∷ []; IsFormed = λ n. n < 10 ^ 9; bare = λ n. n }
+pub count_part : {F : Follow} → Part (counts_of IsFormedCount) F count
+count_part = number_part IsFormedCount is_count
+    (record { small = λ _ f. f; passes = written_count; count = λ _ e. e; such = λ token e. (count_written token e).below })
+    0 (omega arith)
 
-pub count_part : {F : Follow} → Part counts_one F count
-count_part = less_part (record { reads = λ n ts. either (heads is_count ts) (λ e. record { holds = count_read n ts e }) (λ e. record { holds = count_refused n ts e }); value = 0; formed = omega arith })
-  where
-    count_refused : (n : ℕ) (ts : List Token) → heads is_count ts ≡ false → IsRefused counts_one Any n ts n
-    count_refused n ts e = record {
-      front = [];
-      back = ts;
-      text = refl;
-      at = omega arith;
-      none = λ b more f s a. by_first ts e b more f a;
-      value = 0;
-      more = decimal 0 ∷ [];
-      formed = omega arith;
-      begins = refl;
-      shallow = tt;
-    }
-      where
-        by_first : (ts : List Token) → heads is_count ts ≡ false → (b : ℕ) (more : List Token) → b < 10 ^ 9 → Agree 1 ts (decimal b ∷ more) → ⊥
-        by_first [] e b more f a = a
-        by_first (u ∷ us) e b more f a = false≢true (sym e ∙ ap is_count a.0 ∙ written_count b f)
+abbrev pub counts_within : ℕ → ℕ → Grammar ℕ
+counts_within least most = counts_of (IsWithin least most)
 
-    count_read : (n : ℕ) (ts : List Token) → heads is_count ts ≡ true → Outcome counts_one Any n ts (count_at n ts)
-    count_read n [] e = absurd (false≢true e)
-    count_read n (u ∷ us) e =
-        let w = count_written u e in
-        record {
-          text = ap (λ z. z ∷ us) (sym w.decimal);
-          at = refl;
-          placed = (tt, tt);
-          formed = w.below;
-          shallow = (tt, tt);
-          only = λ b more f s a.
-              let same : digits_value 10 u ≡ b = ap (digits_value 10) a.0 ∙ written_value b f in
-              record { bare = same; outlines = ap (λ z. spell.count z ∷ []) same };
-        }
+pub count_within_part : {F : Follow} (least most : ℕ) → least ≤ most → most < 10 ^ 9 → Part (counts_within least most) F (count_within least most)
+count_within_part least most l m = number_part (IsWithin least most) (is_count_within least most)
+    (record {
+      small = λ n f. omega (arith, f.0, f.1);
+      passes = λ n f.
+          let small : n < 10 ^ 9 = omega (arith, f.0, f.1) in
+          and_true _ _ (written_count n small) (ap (is_within least most) (written_value n small) ∙ is_within-true least most n f);
+      count = λ token e. (both_true _ _ e).0;
+      such = λ token e. within_is least most (digits_value 10 token) (both_true (is_count token) (is_within least most (digits_value 10 token)) e).1;
+    })
+    least (omega arith, l)

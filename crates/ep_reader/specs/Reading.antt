@@ -1,5 +1,5 @@
 -- Reading as a function on lists of tokens: the value, the place behind it and the tokens from there, or the first fault.
-use Rattle.std.specs.Prelude.{ℕ, zero, suc, ◌+◌, ◌==◌, Bool, false, ◌&&◌, ◌||◌, not, if◌then◌else◌, List, [], ◌∷◌, length, drop, Option, Some, None, Result, Ok, Err}
+use Rattle.std.specs.Prelude.{ℕ, zero, suc, ◌+◌, ◌==◌, nat_le, Bool, true, false, ◌&&◌, ◌||◌, not, if◌then◌else◌, List, [], ◌∷◌, length, drop, Option, Some, None, Result, Ok, Err}
 use Rattle.std.specs.Str.Parse.{digits_value}
 use Rattle.ep_lex.specs.declared.token.TokenKind.TheVariants as kind
 use Rattle.ep_lex.specs.declared.token.PieceKind.TheVariants as piece
@@ -76,12 +76,23 @@ is_unpadded (d ∷ ds) = not (d == 48) || length ds == 0
 abbrev pub is_count : Token → Bool
 is_count token = is_piece (piece.Spelling kind.Number) token && is_unpadded token
 
+-- a count whose value is at least the first and at most the second
+abbrev pub is_count_within : ℕ → ℕ → Token → Bool
+is_count_within least most token = is_count token && (nat_le least (digits_value 10 token) && nat_le (digits_value 10 token) most)
+
 abbrev pub count_at : ℕ → List Token → Read ℕ
 count_at n [] = Err (Syntax n)
 count_at n (t ∷ ts) = Ok (digits_value 10 t, n + 1, ts)
 
+-- a number that passes the test
+abbrev pub number_by : (Token → Bool) → Reader ℕ
+number_by test n ts = if heads test ts then count_at n ts else Err (Syntax n)
+
 abbrev pub count : Reader ℕ
-count n ts = if heads is_count ts then count_at n ts else Err (Syntax n)
+count n ts = number_by is_count n ts
+
+abbrev pub count_within : ℕ → ℕ → Reader ℕ
+count_within least most n ts = number_by (is_count_within least most) n ts
 
 -- ---- lists
 
@@ -126,6 +137,10 @@ any_listed test t item n ts = if heads test ts then listed t item n ts else Ok (
 -- [ t item ]
 abbrev pub optional : {A : Type 0} → Terminal → Reader A → Reader (Option A)
 optional t item n ts = if begins t ts then made Some (behind_key t item n ts) else Ok (None, n, ts)
+
+-- whether an item stands here, which begins with the terminal
+abbrev pub flag : {A : Type 0} → Terminal → Reader A → Reader Bool
+flag t item n ts = if begins t ts then made (λ _. true) (item n ts) else Ok (false, n, ts)
 
 -- '{' item '}'
 abbrev pub braced : {A : Type 0} → Reader A → Reader A

@@ -216,6 +216,19 @@ impl<'a> Reader<'a> {
         Ok(value)
     }
 
+    /// A number without a leading zero, but `0` itself, of at least the first and at most the second.
+    pub fn expect_count_within(&mut self, least: u32, most: u32) -> Result<u32, SyntaxError>
+        ensures { Gives (reading.count_within least most) self.old result self.new }
+    {
+        let token = self.at;
+        let count = self.expect_count()?;
+        if least <= count && count <= most {
+            Ok(count)
+        } else {
+            Err(SyntaxError::Syntax { token })
+        }
+    }
+
     /// Nothing is left.
     pub fn expect_end(&mut self) -> Result<(), SyntaxError>
         ensures { Gives reading.end self.old result self.new }

@@ -11,6 +11,7 @@ use Rattle.ep_ground.specs.Task.{GroundTask}
 use Rattle.ep_ground.specs.Grounding.{fault_of, task_of}
 use Rattle.ep_ground.specs.declared.fault.GroundError.{GroundError}
 use Rattle.ep_ground.specs.declared.fault.GroundError.TheVariants as fault
+use Rattle.ep_ground.specs.declared.fault.S5Place.TheVariants as place
 use Rattle.ep_answer.specs.declared.answer.Answer.{Answer}
 use Rattle.ep_answer.specs.declared.answer.Answer.TheVariants.{Refused}
 use Rattle.ep_answer.specs.declared.answer.Stop.{Stop}
@@ -108,6 +109,8 @@ module _ (status : Status) (text : List ℕ) (R : Type 0) (refused : FromRefusal
   by_cause found (fault.TooManyVaried n) h = refused (cause.TooManyVaried n) tt (subst (λ c. Answers status text ≡ answers (Refused Task c)) h.1 h.2)
   by_cause found (fault.TooManyWorlds n) h = refused (cause.TooManyWorlds n) tt (subst (λ c. Answers status text ≡ answers (Refused Task c)) h.1 h.2)
   by_cause found fault.NoDesignated h = refused cause.NoDesignated tt (subst (λ c. Answers status text ≡ answers (Refused Task c)) h.1 h.2)
+  by_cause found (fault.NotS5 place.Initial agent) h = refused (cause.NotS5Initial agent) tt (subst (λ c. Answers status text ≡ answers (Refused Task c)) h.1 h.2)
+  by_cause found (fault.NotS5 (place.Action action) agent) h = refused (cause.NotS5Action action agent) tt (subst (λ c. Answers status text ≡ answers (Refused Task c)) h.1 h.2)
   by_cause found fault.OutOfMemory h = absurd h.1
 
   by_ground : (found : Lexed) (tree : TaskTree) (P : GroundTask → Outcome → Type 0) (first : Option GroundError) → ((g : GroundTask) → P g (Answers status text) → R)

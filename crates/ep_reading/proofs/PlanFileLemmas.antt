@@ -58,6 +58,7 @@ plan_cause_is_behind s (fault.Syntax token line) c status text is e =
 plan_cause_is_behind s fault.OtherTask c status text is e = refusal_is_behind status text s cause.OtherTask tt (subst (λ c. Answers status text ≡ answers (Refused s c)) is e)
 plan_cause_is_behind s (fault.UnknownAction line) c status text is e = refusal_is_behind status text s (cause.UnknownAction line) tt (subst (λ c. Answers status text ≡ answers (Refused s c)) is e)
 plan_cause_is_behind s (fault.WrongCount stated listed) c status text is e = refusal_is_behind status text s cause.WrongCount tt (subst (λ c. Answers status text ≡ answers (Refused s c)) is e)
+plan_cause_is_behind s (fault.WrongCost stated summed) c status text is e = refusal_is_behind status text s cause.WrongCost tt (subst (λ c. Answers status text ≡ answers (Refused s c)) is e)
 plan_cause_is_behind s fault.OutOfMemory c status text is e = absurd is
 
 pub plan_read_is_behind : (subject : Subject) (g : GroundTask) (bytes : List ℕ) (P : List ActionId → Outcome → Type 0) (status : Status) (text : List ℕ)

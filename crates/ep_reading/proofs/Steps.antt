@@ -1,20 +1,23 @@
 -- How a step of the work goes on, and how it ends the work.
-use Rattle.std.proofs.Common.{◌≡◌, ℕ, List, length, Option, Some, None, MatchOption, ◌⊎◌, inl, inr, sym, ap, subst, ◌∙◌, arith}
-use Rattle.std.proofs.lemmas.List.{length-map}
-use Rattle.ep_lex.specs.Tokens.{Lexed, spelling}
+use Rattle.std.proofs.Common.{◌≡◌, ℕ, List, Option, Some, None, MatchOption, option_map, ◌⊎◌, inl, inr, sym, ap, subst}
+use Rattle.ep_lex.specs.Tokens.{Lexed}
 use Rattle.ep_reader.specs.Texts.{IsTextOf, IsTextFault}
 use Rattle.ep_reader.specs.declared.text.TextError.{TextError}
 use Rattle.ep_reader.specs.declared.text.TextError.TheVariants as text
 use Rattle.ep_tree.specs.Formed.{IsFormedTask}
 use Rattle.ep_tree.specs.Marks.{IsShallow}
-use Rattle.ep_tree.specs.Grammar.{Grammar, tasks, spelling_of}
+use Rattle.ep_tree.specs.Grammar.{Grammar, tasks}
 use Rattle.ep_tree.specs.declared.tree.TaskTree.{TaskTree}
 use Rattle.ep_types.specs.Places.{Uses}
-use Rattle.ep_types.specs.Faults.{first_fault}
+use Rattle.ep_types.specs.Faults.{error_at, first_error, first_fault}
 use Rattle.ep_types.specs.Tasks.{HasNoFault, declarations, task_uses}
 use Rattle.ep_types.specs.declared.fault.TypeFault.{TypeFault}
+use Rattle.ep_types.specs.declared.fault.TypeError.TheVariants as type_error
+use Rattle.ep_types.specs.declared.fault.TypeError.TheVariants.{At}
+use Rattle.ep_base.specs.Refusals.{Reports}
 use Rattle.ep_ground.specs.Task.{GroundTask}
 use Rattle.ep_tree.specs.Grammar.{IsRead}
+use Rattle.ep_tree.proofs.CallerLemmas.{is_read}
 use Rattle.ep_ground.specs.Grounding.{fault_of, task_of}
 use Rattle.ep_ground.specs.declared.fault.GroundError.{GroundError}
 use Rattle.ep_ground.specs.declared.fault.GroundError.TheVariants as fault
@@ -142,6 +145,24 @@ pub stops_at_ground : (bytes : List ℕ) (found : Lexed) (tree : TaskTree) (stop
 stops_at_ground bytes found tree (Told answer) t h = TaskRead-tree bytes found tree nothing_behind (answers answer) t h
 stops_at_ground bytes found tree OutOfMemory t h = h
 
+-- ---- type faults
+
+-- the first fault is told with its place
+first_told : (found : Lexed) (next : Outcome → Type 0) (f : TypeFault) (token : ℕ) (first : Option (TypeFault × ℕ)) → option_map error_at first ≡ Some (At f token)
+    → MatchOption first (next (answers (Refused Task (cause.Mistyped f (place_at found token)))))
+    (λ fault. answers (Refused Task (cause.Mistyped f (place_at found token))) ≡ answers (Refused Task (cause.Mistyped fault.0 (place_at found fault.1))))
+first_told found next f token None e = absurd (cc)
+first_told found next f token (Some p) e =
+    let same : At p.0 p.1 ≡ At f token = cc in
+    let kind : f ≡ p.0 = cc in
+    let place : token ≡ p.1 = cc in
+    (λ j. answers (Refused Task (cause.Mistyped (kind j) (place_at found (place j)))))
+
+pub types_fault : (found : Lexed) (uses : Uses) (next : Outcome → Type 0) (f : TypeFault) (token : ℕ) → Reports type_error.OutOfMemory (first_error uses) (At f token)
+    → Judged Task found uses next (answers (Refused Task (cause.Mistyped f (place_at found token))))
+types_fault found uses next f token (inl want) = absurd (cc)
+types_fault found uses next f token (inr is) = first_told found next f token (first_fault uses) is
+
 -- ---- what is known of the tree of a text
 
 pub tree_of : (bytes : List ℕ) (found : Lexed) (tree typed : TaskTree) → IsTextOf tasks bytes found tree
@@ -151,14 +172,8 @@ tree_of bytes found tree typed is h = record {
   typed = subst HasNoFault (sym h.0) h.1;
 }
 
-pub tree_is_read : (bytes : List ℕ) (found : Lexed) (tree : TaskTree) → IsTreeOf bytes found tree → IsRead tree
-tree_is_read bytes found tree t =
-    let count : length (spelling_of tasks tree) ≡ length found.tokens = ap length t.text.reads.spelled ∙ length-map found.tokens (spelling bytes) in
-    record {
-      formed = t.text.reads.formed;
-      shallow = t.text.reads.shallow;
-      few = omega (arith, count, t.text.lexed.few);
-    }
+pub text_is_read : (bytes : List ℕ) (found : Lexed) (tree : TaskTree) → IsTextOf tasks bytes found tree → IsRead tree
+text_is_read bytes found tree t = is_read bytes found.tokens tree t.lexed.few t.reads
 
 pub ground_formed : (tree : TaskTree) (g : GroundTask) → g ≡ task_of tree → IsFormedTask tree → IsFormedTask g.tree
 ground_formed tree g whole h = subst IsFormedTask (sym (ap (λ (t : GroundTask). t.tree) whole)) h

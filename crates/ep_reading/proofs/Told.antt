@@ -62,9 +62,12 @@ IsBehindFetch (cause.AtomTwice name) = ⊤
 IsBehindFetch (cause.TooManyVaried n) = ⊤
 IsBehindFetch (cause.TooManyWorlds n) = ⊤
 IsBehindFetch cause.NoDesignated = ⊤
+IsBehindFetch (cause.NotS5Initial agent) = ⊤
+IsBehindFetch (cause.NotS5Action action agent) = ⊤
 IsBehindFetch cause.OtherTask = ⊤
 IsBehindFetch (cause.UnknownAction line) = ⊤
 IsBehindFetch cause.WrongCount = ⊤
+IsBehindFetch cause.WrongCost = ⊤
 
 pub text_cause_behind : (e : TextError) (c : Cause) → IsTextCause e c → IsBehindFetch c
 text_cause_behind (text_error.Stray at) c is = subst IsBehindFetch (sym is) tt
@@ -103,9 +106,12 @@ cause_not_missing (cause.AtomTwice name) b e = differ 0 _ _ refl e
 cause_not_missing (cause.TooManyVaried n) b e = differ 0 _ _ refl e
 cause_not_missing (cause.TooManyWorlds n) b e = differ 0 _ _ refl e
 cause_not_missing cause.NoDesignated b e = differ 3 _ _ refl e
+cause_not_missing (cause.NotS5Initial agent) b e = differ 2 _ _ refl e
+cause_not_missing (cause.NotS5Action action agent) b e = differ 2 _ _ refl e
 cause_not_missing cause.OtherTask b e = differ 0 _ _ refl e
 cause_not_missing (cause.UnknownAction line) b e = differ 0 _ _ refl e
 cause_not_missing cause.WrongCount b e = differ 0 _ _ refl e
+cause_not_missing cause.WrongCost b e = differ 0 _ _ refl e
 
 cause_not_long : (c : Cause) → IsBehindFetch c → line c ≡ line cause.TooLong → ⊥
 cause_not_long cause.NoSuchFile b e = absurd b
@@ -134,9 +140,12 @@ cause_not_long (cause.AtomTwice name) b e = differ 0 _ _ refl e
 cause_not_long (cause.TooManyVaried n) b e = differ 4 _ _ refl e
 cause_not_long (cause.TooManyWorlds n) b e = differ 4 _ _ refl e
 cause_not_long cause.NoDesignated b e = differ 0 _ _ refl e
+cause_not_long (cause.NotS5Initial agent) b e = differ 0 _ _ refl e
+cause_not_long (cause.NotS5Action action agent) b e = differ 0 _ _ refl e
 cause_not_long cause.OtherTask b e = differ 0 _ _ refl e
 cause_not_long (cause.UnknownAction line) b e = differ 0 _ _ refl e
 cause_not_long cause.WrongCount b e = differ 0 _ _ refl e
+cause_not_long cause.WrongCost b e = differ 0 _ _ refl e
 
 -- ---- refusals with the same text
 

@@ -32,6 +32,7 @@ IsPlanCause (fault.Syntax token line) c = c ≡ cause.Syntax (record { token = t
 IsPlanCause fault.OtherTask c = c ≡ cause.OtherTask
 IsPlanCause (fault.UnknownAction line) c = c ≡ cause.UnknownAction line
 IsPlanCause (fault.WrongCount stated listed) c = c ≡ cause.WrongCount
+IsPlanCause (fault.WrongCost stated summed) c = c ≡ cause.WrongCost
 IsPlanCause fault.OutOfMemory c = ⊥
 
 -- the bytes have a fault, which is told

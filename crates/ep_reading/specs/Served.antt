@@ -14,6 +14,7 @@ use Rattle.ep_types.specs.Tasks.{declarations, task_uses}
 use Rattle.ep_ground.specs.Task.{GroundTask}
 use Rattle.ep_ground.specs.declared.fault.GroundError.{GroundError}
 use Rattle.ep_ground.specs.declared.fault.GroundError.TheVariants as fault
+use Rattle.ep_ground.specs.declared.fault.S5Place.TheVariants as place
 use Rattle.ep_ground.specs.Grounding.{fault_of, task_of}
 use Rattle.ep_io.specs.Library.{FileMap, file_of}
 use Rattle.ep_answer.specs.declared.answer.Answer.{Answer}
@@ -95,6 +96,8 @@ IsCauseOf found (fault.AtomTwice name) c = c ≡ cause.AtomTwice name
 IsCauseOf found (fault.TooManyVaried n) c = c ≡ cause.TooManyVaried n
 IsCauseOf found (fault.TooManyWorlds n) c = c ≡ cause.TooManyWorlds n
 IsCauseOf found fault.NoDesignated c = c ≡ cause.NoDesignated
+IsCauseOf found (fault.NotS5 place.Initial agent) c = c ≡ cause.NotS5Initial agent
+IsCauseOf found (fault.NotS5 (place.Action action) agent) c = c ≡ cause.NotS5Action action agent
 IsCauseOf found fault.OutOfMemory c = ⊥
 
 -- the ground fault is told

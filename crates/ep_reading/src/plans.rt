@@ -25,6 +25,7 @@ fn cause_of(error: PlanError) -> Option<Cause>
         PlanError::OtherTask => Some(Cause::OtherTask),
         PlanError::UnknownAction { line } => Some(Cause::UnknownAction { line }),
         PlanError::WrongCount { .. } => Some(Cause::WrongCount),
+        PlanError::WrongCost { .. } => Some(Cause::WrongCost),
         PlanError::OutOfMemory => None,
     }
 }

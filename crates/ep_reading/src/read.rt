@@ -1,5 +1,6 @@
 // The reading of texts: tokens, trees, types, and ground tasks.
 ghost use Rattle.std.specs.Prelude.{◌≡◌, ◌≤◌, length, MatchOption, MatchResult};
+ghost use Rattle.ep_lex.specs.Tokens.{Lexed};
 ghost use Rattle.ep_lex.specs.declared.limits.TheConstants.{MOST_BYTES};
 ghost use Rattle.ep_reader.specs.Texts.{IsTextOf};
 ghost use Rattle.ep_reader.specs.declared.text.TextError.TheVariants as text_fault;
@@ -11,7 +12,8 @@ ghost use Rattle.ep_reading.specs.Served.{IsCauseOf, IsTextCause, TellsCause, Pa
 ghost use Rattle.ep_reading.specs.Steps.{IsGroundOf, IsTaskOf, StopsAtText, StopsBy, nothing_behind};
 
 use ep_answer::{Answer, Cause, Place, Stop, Subject};
-use ep_ground::{GroundError, Task, ground};
+use ep_base::Text;
+use ep_ground::{GroundError, S5Place, Task, ground};
 use ep_lex::TokenList;
 use ep_reader::{ParsedText, TextError};
 use ep_syntax::read_task_text;
@@ -62,6 +64,7 @@ fn task_text(alloc: Global, bytes: &[u8]) -> Result<ParsedText<TaskTree>, Stop>
 }
 
 fn typed_task(alloc: Global, found: &TokenList, tree: TaskTree) -> Result<Typed, Stop>
+    requires { IsRead tree }
     ensures { MatchResult result (λ typed. (typed ≡ tree) × HasNoFault tree)
         (StopsBy (Judged OfTask found.now (task_uses tree) (nothing_behind tree))) }
 {
@@ -72,6 +75,19 @@ fn typed_task(alloc: Global, found: &TokenList, tree: TaskTree) -> Result<Typed,
             Err(Stop::Told(Answer::Refused(Subject::Task, cause)))
         }
         Err(TypeError::OutOfMemory) => Err(Stop::OutOfMemory),
+    }
+}
+
+// The cause that tells of a relation that is no equivalence.
+fn not_s5(place: S5Place, agent: Text) -> Cause
+    ensures { (found : Lexed) → IsCauseOf found (fault.NotS5 place agent) result }
+{
+    match place {
+        S5Place::Initial => Cause::NotS5Initial { agent },
+        S5Place::Action { name } => Cause::NotS5Action {
+            action: name,
+            agent,
+        },
     }
 }
 
@@ -92,6 +108,7 @@ fn cause_of(found: &TokenList, error: GroundError) -> Option<Cause>
         GroundError::TooManyVaried { count } => Some(Cause::TooManyVaried { count }),
         GroundError::TooManyWorlds { count } => Some(Cause::TooManyWorlds { count }),
         GroundError::NoDesignated => Some(Cause::NoDesignated),
+        GroundError::NotS5 { place, agent } => Some(not_s5(place, agent)),
         GroundError::OutOfMemory => None,
     }
 }
@@ -106,7 +123,6 @@ fn stop_of(found: &TokenList, error: GroundError) -> Stop
 }
 
 fn ground_task(alloc: Global, found: &TokenList, typed: Typed) -> Result<Task, Stop>
-    requires { IsRead typed }
     ensures { MatchResult result (IsGroundOf typed) (StopsBy (Grounded found.now typed nothing_behind)) }
 {
     match ground(alloc, typed) {

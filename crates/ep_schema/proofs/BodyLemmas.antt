@@ -154,10 +154,11 @@ pub schema_buildable : (d : Declared) (s : SchemaTree) → IsSound d s → event
 schema_buildable d s h events small =
     let r = both-none (uses.param_uses 0 s.params (closed d)) (tasks.body_uses s.body (with_params (closed d) s.params)) h.fine in
     let signature = spell.signature s.params s.distinct in
-    let marks = shallow-right signature (spell.braced (spell.body s.body)) h.shallow.1.1 in
-    let all = long-right signature (spell.braced (spell.body s.body)) MOST_TOKENS (let few = h.few in omega arith) in
+    let costed = spell.cost s.cost ++ spell.braced (spell.body s.body) in
+    let marks = shallow-right (spell.cost s.cost) (spell.braced (spell.body s.body)) (shallow-right signature costed h.shallow.1.1) in
+    let all = long-right (spell.cost s.cost) (spell.braced (spell.body s.body)) MOST_TOKENS (long-right signature costed MOST_TOKENS (let few = h.few in omega arith)) in
     let inner = long-left (spell.body s.body) (fixed the.CloseBrace ∷ []) MOST_TOKENS (omega arith) in
     record {
       few_params = few_params d s h;
-      buildable = λ some. body_buildable d (with_params (closed d) s.params) s.body h.formed.2 (braced-shallow (spell.body s.body) marks) inner r.1 events (small some);
+      buildable = λ some. body_buildable d (with_params (closed d) s.params) s.body h.formed.3 (braced-shallow (spell.body s.body) marks) inner r.1 events (small some);
     }

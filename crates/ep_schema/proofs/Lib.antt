@@ -4,5 +4,6 @@ pub mod ActionLemmas
 pub mod FaultLemmas
 pub mod DifferLemmas
 pub mod BodyLemmas
+pub mod CostLemmas
 pub mod WordLemmas
 pub mod CallerLemmas

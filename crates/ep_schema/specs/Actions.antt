@@ -1,5 +1,5 @@
 -- Ground actions, in order.
-use Rattle.std.specs.Prelude.{ℕ, Bool, not, List, map, if◌then◌else◌}
+use Rattle.std.specs.Prelude.{ℕ, Bool, not, List, map, unwrap_or, if◌then◌else◌}
 use Rattle.std.specs.List.{flat_map, list_any}
 use Rattle.ep_logic.specs.declared.formula.Node.{Node}
 use Rattle.ep_theory.specs.Events.{Event, EventModel}
@@ -58,3 +58,16 @@ schema_actions d s = map (action_at d s) (schema_bindings d s)
 -- the schemas in order, each at its bindings
 abbrev pub actions_of : Declared → List SchemaTree → List EventModel
 actions_of d schemas = flat_map (schema_actions d) schemas
+
+-- ---- costs
+
+-- the cost that a schema states, or 1
+abbrev pub cost_of : SchemaTree → ℕ
+cost_of s = unwrap_or s.cost 1
+
+abbrev pub schema_costs : Declared → SchemaTree → List ℕ
+schema_costs d s = map (λ objects. cost_of s) (schema_bindings d s)
+
+-- the costs of the actions of the schemas, in order
+abbrev pub costs_of : Declared → List SchemaTree → List ℕ
+costs_of d schemas = flat_map (schema_costs d) schemas

@@ -3,6 +3,7 @@
 
 pub mod actions;
 mod body_error;
+pub mod costs;
 pub mod counts;
 mod fault;
 pub mod laws;

@@ -1,12 +1,13 @@
 //! Planning tasks, from tables.
 
 ghost use Rattle.std.specs.Prelude.{◌≤◌};
+ghost use Rattle.std.specs.List.{AllByRecursion};
 
 use crate::actions::{Act, action};
 use crate::states::{Shape, state};
 use ep_event::Action;
 use ep_kripke::State;
-use ep_logic::{AgentId, AtomId, Formula, List};
+use ep_logic::{AgentId, AtomId, Formula, List, OutOfMemory};
 use ep_problem::{Problem, actions_fit};
 use ep_truth::fits;
 use std::alloc::Global;
@@ -155,15 +156,41 @@ fn formula(rt: &impl Abort, alloc: Global, goal: Goal) -> Result<Formula, Fail> 
     }
 }
 
-fn posed(rt: &impl Abort, initial: State, actions: List<Action>, goal: Formula) -> Problem {
+fn check_costs(rt: &impl Abort, costs: &[u32])
+    ensures least { AllByRecursion (λ cost. 1 ≤ cost) costs.now }
+    ensures most { AllByRecursion (λ cost. cost ≤ 100) costs.now }
+{
+    for cost in costs {
+        assert!(rt; 1 <= *cost && *cost <= 100);
+    }
+}
+
+fn ones(alloc: Global, count: usize) -> Result<List<u32>, OutOfMemory> {
+    let mut ones = List::new(alloc);
+    for _n in 0..count {
+        ones.push(1)?;
+    }
+    Ok(ones)
+}
+
+fn posed(
+    rt: &impl Abort,
+    initial: State,
+    actions: List<Action>,
+    costs: List<u32>,
+    goal: Formula,
+) -> Problem {
     assert!(rt; initial.worlds() <= 256 && actions.as_slice().len() <= 1024);
     assert!(rt; actions_fit(&initial, actions.as_slice()) && fits(&initial, &goal));
-    Problem::new(initial, actions, goal)
+    assert!(rt; costs.as_slice().len() == actions.as_slice().len());
+    check_costs(rt, costs.as_slice());
+    Problem::new(initial, actions, costs, goal)
 }
 
 pub fn problem(rt: &impl Abort, alloc: Global, task: &Task) -> Result<Problem, Fail> {
     let initial = state(rt, alloc, &task.shape)?;
     let actions = actions(rt, alloc, task)?;
+    let costs = ones(alloc, actions.as_slice().len())?;
     let goal = formula(rt, alloc, task.goal)?;
-    Ok(posed(rt, initial, actions, goal))
+    Ok(posed(rt, initial, actions, costs, goal))
 }

@@ -211,13 +211,14 @@ const LOOPS: [Triple; 6] = [
     (1, 2, 2),
 ];
 
-// Asserts whether three events with these links, behind so many of the loops, have equivalences.
+// Asserts of which of the two agents the relation is an equivalence, for three events with these links behind so many of
+// the loops.
 fn check_s5(
     rt: &impl Abort,
     alloc: Global,
     loops: usize,
     links: &[Triple],
-    is_s5: bool,
+    wanted: [bool; 2],
 ) -> Result<(), Fail> {
     let no: &[u32] = &[];
     let mut all = Vec::new(alloc);
@@ -226,7 +227,11 @@ fn check_s5(
     }
     all.extend_from_slice(links)?;
     let action = build(rt, alloc, &[no; 3], all.as_slice(), &[0])?;
-    assert_eq!(rt; action.is_s5(), is_s5);
+    assert!(rt; action.agents() == 2);
+    let first = action.is_equivalence(AgentId { n: 0 });
+    let second = action.is_equivalence(AgentId { n: 1 });
+    assert_eq!(rt; [first, second], wanted);
+    assert_eq!(rt; action.is_s5(), first && second);
     Ok(())
 }
 
@@ -243,12 +248,12 @@ fn equivalences_of_events(rt: HostRuntime) -> Result<(), Fail> {
         (0, 0, 2),
         (0, 2, 0),
     ];
-    check_s5(&rt, rt.alloc(), 6, &[], true)?;
-    check_s5(&rt, rt.alloc(), 5, &[], false)?;
-    check_s5(&rt, rt.alloc(), 6, &one_way, false)?;
-    check_s5(&rt, rt.alloc(), 6, &both_ways, true)?;
-    check_s5(&rt, rt.alloc(), 6, &open_chain, false)?;
-    check_s5(&rt, rt.alloc(), 6, &all_pairs, true)?;
+    check_s5(&rt, rt.alloc(), 6, &[], [true, true])?;
+    check_s5(&rt, rt.alloc(), 5, &[], [true, false])?;
+    check_s5(&rt, rt.alloc(), 6, &one_way, [true, false])?;
+    check_s5(&rt, rt.alloc(), 6, &both_ways, [true, true])?;
+    check_s5(&rt, rt.alloc(), 6, &open_chain, [false, true])?;
+    check_s5(&rt, rt.alloc(), 6, &all_pairs, [true, true])?;
     Ok(())
 }
 

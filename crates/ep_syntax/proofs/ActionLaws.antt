@@ -1,7 +1,8 @@
 -- The laws of the readers of actions.
-use Rattle.std.proofs.Common.{◌≡◌, ℕ, Bool, true, false, List, [], ◌∷◌, ◌++◌, map, refl, sym, ap, ◌∙◌, subst, arith, append_assoc}
+use Rattle.std.proofs.Common.{◌≡◌, ℕ, Bool, true, false, List, [], ◌∷◌, ◌++◌, map, Option, Some, None, IfSome, refl, sym, ap, ◌∙◌, subst, arith, append_assoc, lit≤, lit<}
 use Rattle.std.specs.List.{flat_map}
 use Rattle.std.proofs.lemmas.Bool.{false≢true}
+use Rattle.ep_bounds.specs.declared.bounds.TheConstants.{MOST_COST}
 use Rattle.ep_tree.specs.declared.terminal.Terminal.{Terminal}
 use Rattle.ep_tree.specs.declared.terminal.Terminal.TheVariants as the
 use Rattle.ep_tree.specs.declared.tree.Name.{Name}
@@ -15,19 +16,19 @@ use Rattle.ep_tree.specs.declared.tree.SchemaTree.{SchemaTree}
 use Rattle.ep_tree.specs.declared.tree.FormulaTree.{FormulaTree}
 use Rattle.ep_tree.specs.declared.tree.FormulaTree.TheVariants as tree
 use Rattle.ep_tree.specs.Bare.{bare_param, bare_set, bare_event, bare_body, bare_schema}
-use Rattle.ep_tree.specs.Formed.{IsFormedSet, IsFormedEvent, IsFormedBody, IsFormedSignature, IsFormedSchema}
+use Rattle.ep_tree.specs.Formed.{IsFormedSet, IsFormedEvent, IsFormedBody, IsFormedSignature, IsFormedCost, IsFormedSchema}
 use Rattle.ep_tree.specs.Grammar.{Grammar}
-use Rattle.ep_tree.specs.Marks.{fixed, texts}
-use Rattle.ep_reader.specs.Reading.{Token, seq, begins, heads, each}
+use Rattle.ep_tree.specs.Marks.{fixed, named, texts}
+use Rattle.ep_reader.specs.Reading.{Token, seq, begins, heads, key, each, count_within}
 use Rattle.ep_tree.specs.Terminals.{is}
 use Rattle.ep_tree.specs.Spelling as spell
 use Rattle.ep_tree.specs.Terminals.{text_of}
 use Rattle.ep_syntax.specs.FormulaReading.{params}
-use Rattle.ep_syntax.specs.TaskReading.{set, sets, event, private_of, private_message, sense_of, sensing, assign_of, assignment, events_of, events, body, distinct, Signature, signature, schema}
+use Rattle.ep_syntax.specs.TaskReading.{set, sets, event, private_of, private_message, sense_of, sensing, assign_of, assignment, events_of, events, body, distinct, Signature, signature, cost, schema}
 use Rattle.ep_syntax.proofs.AtomLaws.{atom_part, some_atom, groups_one, group_part, params_of, params_part}
 use Rattle.ep_syntax.proofs.InitialLaws.{outer_one, outer_part, before, statement_part, links_of, links_part, designated_of, designated_part}
 use Rattle.ep_syntax.proofs.Layers.{some_formula}
-use Rattle.ep_reader.proofs.CallerLemmas.{Agree, Follow, IsSame, both, Made, Agree-heads, each_of, each_part, some_each_of, some_each_part, Reads, Part, Any, Next, pair, then, made_by, made_all, either, less, next_lacks, plain, plain_reads, plain_part, name_part, some_name, within_of, within_part, made-id, braced_of, braced_part, named_entries_part, both_true}
+use Rattle.ep_reader.proofs.CallerLemmas.{Agree, Follow, IsSame, both, Made, Agree-heads, each_of, each_part, some_each_of, some_each_part, Reads, Part, Any, Lacks, Next, pair, then, made_by, made_all, either, next_lacks, plain, plain_reads, plain_part, name_part, some_name, within_of, within_part, made-id, braced_of, braced_part, named_entries_part, both_true, IsOptional, optional_part, IsFlag, flag_part, counts_within, count_within_part}
 
 -- ---- sets and events
 
@@ -186,24 +187,16 @@ body_part = record {
 abbrev distinct_of : Grammar Bool
 distinct_of = record { marks = spell.distinct; IsFormed = λ _. Unit {0}; bare = λ b. b }
 
-distinct_none : (ts : List Token) → begins the.Distinct ts ≡ false → (b : Bool) (more : List Token) → Agree 1 ts (texts (spell.distinct b) ++ more) → IsSame distinct_of false b
-distinct_none ts e false more a = record { bare = refl; outlines = refl }
-distinct_none ts e true more a = absurd (false≢true (sym e ∙ Agree-heads (is the.Distinct) ts _ a))
+-- neither parameters nor `distinct` begin here
+abbrev NoSignature : Follow
+NoSignature ts = Lacks (is the.OpenParen) ts × Lacks (is the.Distinct) ts
 
-distinct_back : (ts : List Token) → begins the.Distinct ts ≡ true → (b : Bool) (more : List Token) → Unit {0} → Next the.OpenBrace more → Agree 1 ts (texts (spell.distinct b) ++ more)
-    → Made (plain the.Distinct) (λ _. true) b
-distinct_back ts e true more f s a = record { from = 0; formed = tt; is = refl }
-distinct_back ts e false more f s a = absurd (false≢true (sym (next_lacks the.OpenBrace (is the.Distinct) refl more s) ∙ sym (Agree-heads (is the.Distinct) ts more a) ∙ e))
+distinct_flag : IsFlag the.Distinct (plain the.Distinct) distinct_of
+distinct_flag = record { no = refl; yes = λ _. refl; starts = λ _. refl; formed = λ _. tt; bare = λ _. refl }
 
-distinct_part : Part distinct_of (Next the.OpenBrace) distinct
+distinct_part : Part distinct_of NoSignature distinct
 unfolding distinct
-distinct_part = record {
-  reads = λ n ts. either (begins the.Distinct ts)
-      (λ e. made_by (record { marks = λ _ _. refl; formed = λ _ _. tt; bare = λ _. refl }) (less (plain_reads the.Distinct n ts)) (distinct_back ts e))
-      (λ e. record { holds = record { text = refl; at = omega arith; placed = tt; formed = tt; shallow = tt; only = λ b more f s a. distinct_none ts e b more a } });
-  value = false;
-  formed = tt;
-}
+distinct_part = flag_part the.Distinct (plain the.Distinct) distinct_of distinct_flag NoSignature (key the.Distinct) (plain_part the.Distinct) (λ _ s. s.1)
 
 abbrev signatures_of : Grammar Signature
 signatures_of = record { marks = λ s. spell.signature s.0 s.1; IsFormed = λ s. IsFormedSignature s.0 s.1; bare = λ s. (map bare_param s.0, s.1) }
@@ -212,9 +205,9 @@ signature_none : (ts : List Token) → begins the.OpenParen ts ≡ false → (b 
 signature_none ts e ([], d) more f a = record { bare = ap (λ z. ([], z)) (sym f); outlines = refl }
 signature_none ts e (p ∷ ps, d) more f a = absurd (false≢true (sym e ∙ Agree-heads (is the.OpenParen) ts _ a))
 
-signature_back : (ts : List Token) → begins the.OpenParen ts ≡ true → (b : Signature) (more : List Token) → IsFormedSignature b.0 b.1 → Next the.OpenBrace more → Agree 1 ts (texts (spell.signature b.0 b.1) ++ more)
+signature_back : (ts : List Token) → begins the.OpenParen ts ≡ true → (b : Signature) (more : List Token) → IsFormedSignature b.0 b.1 → NoSignature more → Agree 1 ts (texts (spell.signature b.0 b.1) ++ more)
     → Made (both params_of distinct_of) (λ s. s) b
-signature_back ts e ([], d) more f s a = absurd (false≢true (sym (next_lacks the.OpenBrace (is the.OpenParen) refl more s) ∙ sym (Agree-heads (is the.OpenParen) ts more a) ∙ e))
+signature_back ts e ([], d) more f s a = absurd (false≢true (sym s.0 ∙ sym (Agree-heads (is the.OpenParen) ts more a) ∙ e))
 signature_back ts e (p ∷ ps, d) more f s a = record { from = (p ∷ ps, d); formed = (f, tt); is = refl }
 
 signature_marks : (s : Signature) → (both params_of distinct_of).IsFormed s → spell.signature s.0 s.1 ≡ (both params_of distinct_of).marks s
@@ -225,31 +218,53 @@ signature_formed : (s : Signature) → (both params_of distinct_of).IsFormed s �
 signature_formed ([], d) f = absurd f.0
 signature_formed (p ∷ ps, d) f = f.0
 
-signature_part : Part signatures_of (Next the.OpenBrace) signature
+signature_part : Part signatures_of NoSignature signature
 unfolding signature
 signature_part = record {
   reads = λ n ts. either (begins the.OpenParen ts)
       (λ e.
-      subst (λ r. Reads signatures_of (Next the.OpenBrace) n ts r) (made-id (seq (params n ts) distinct))
+      subst (λ r. Reads signatures_of NoSignature n ts r) (made-id (seq (params n ts) distinct))
       (made_by (record { marks = signature_marks; formed = signature_formed; bare = λ _. refl }) (then (params_part.reads n ts) distinct_part) (signature_back ts e)))
       (λ e. record { holds = record { text = refl; at = omega arith; placed = tt; formed = refl; shallow = tt; only = λ b more f s a. signature_none ts e b more f a } });
   value = ([], false);
   formed = refl;
 }
 
+-- ---- costs
+
+abbrev costs_of : Grammar (Option ℕ)
+costs_of = record { marks = spell.cost; IsFormed = λ o. IfSome o IsFormedCost; bare = λ o. o }
+
+costs_optional : IsOptional the.Cost (counts_within 1 MOST_COST) costs_of
+costs_optional = record { nothing = refl; something = λ _. refl; none_formed = tt; some_formed = λ _ f. f; formed_some = λ _ f. f; none_bare = refl; some_bare = λ _. refl }
+
+cost_part : Part costs_of (Next the.OpenBrace) cost
+unfolding cost
+cost_part = optional_part the.Cost (counts_within 1 MOST_COST) costs_of costs_optional (Next the.OpenBrace) (count_within 1 MOST_COST) (count_within_part 1 MOST_COST (lit≤ tt) (lit< tt))
+    (next_lacks the.OpenBrace (is the.Cost) refl)
+
 -- ---- actions
 
 abbrev schemas_one : Grammar SchemaTree
 schemas_one = record { marks = spell.schema; IsFormed = IsFormedSchema; bare = bare_schema }
 
+behind_signature : (c : Option ℕ) (after : List Token) → IfSome c IsFormedCost → Next the.OpenBrace after → NoSignature (texts (spell.cost c) ++ after)
+behind_signature None after f s = (next_lacks the.OpenBrace (is the.OpenParen) refl after s, next_lacks the.OpenBrace (is the.Distinct) refl after s)
+behind_signature (Some n) after f s = (refl, refl)
+
 schema_part : Part schemas_one Any schema
 unfolding schema
 schema_part = record {
-  reads = λ n ts. made_all (record { marks = λ _ _. refl; formed = λ _ f. (f.0.0.1, f.0.1, f.1); bare = λ _. refl })
-      (λ b f. record { from = (((0, b.name), (b.params, b.distinct)), b.body); formed = (((tt, f.0), f.1), f.2); is = refl })
-      (pair (then (then (plain_reads the.Action n ts) name_part) signature_part) (braced_part body_part) (λ _ _ _ _. refl));
-  value = record { name = some_name; params = []; distinct = false; body = Announce (tree.True 0) };
-  formed = (refl, refl, some_formula);
+  reads = λ n ts. made_all
+      (record {
+        marks = λ a _. ap (λ z. fixed the.Action ∷ named a.0.0.0.1 ∷ z) (sym (append_assoc (spell.signature a.0.0.1.0 a.0.0.1.1) (spell.cost a.0.1) (spell.braced (spell.body a.1))));
+        formed = λ _ f. (f.0.0.0.1, f.0.0.1, f.0.1, f.1);
+        bare = λ _. refl;
+      })
+      (λ b f. record { from = ((((0, b.name), (b.params, b.distinct)), b.cost), b.body); formed = ((((tt, f.0), f.1), f.2), f.3); is = refl })
+      (pair (pair (then (then (plain_reads the.Action n ts) name_part) signature_part) cost_part behind_signature) (braced_part body_part) (λ _ _ _ _. refl));
+  value = record { name = some_name; params = []; distinct = false; cost = None; body = Announce (tree.True 0) };
+  formed = (refl, refl, tt, some_formula);
 }
 
 abbrev pub schemas_of : Grammar (List SchemaTree)

@@ -1,4 +1,3 @@
 -- What the crates above cite of the proofs of this one. All else is its own.
 pub use Rattle.ep_syntax.proofs.PlanLaws.{plan_outcome, plan_shallow}
 pub use Rattle.ep_syntax.proofs.TaskLaws.{task_outcome}
-pub use Rattle.ep_syntax.proofs.TreeEquations.{formula_at-Common, formula_at-Forall, formula_at-Exists, formula_at-Paren, formula_at-And, formula_at-Or}

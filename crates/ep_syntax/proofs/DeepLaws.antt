@@ -21,7 +21,7 @@ use Rattle.ep_tree.specs.Terminals.{text_of, is_name}
 use Rattle.ep_syntax.proofs.AtomLaws.{NotOpen, some_param}
 use Rattle.ep_syntax.proofs.Layers.{Layer, formulas_at, first_text, first_mark, rest_marks, rest_texts, marks-out, texts-out, formed-out, formed-roll, lead, lead-first, is_lead, starter-text, some_formula, no_reads, end_reads}
 use Rattle.ep_syntax.proofs.ParenLaws.{followed, equality_reads, inside_other, inside_name}
-use Rattle.ep_syntax.proofs.TreeEquations as eq
+use Rattle.ep_tree.proofs.CallerLemmas as eq
 use Rattle.ep_reader.proofs.CallerLemmas.{and_true, Follow, Agree-heads, Agree, IsShallowTo, Opens, Opens-more, Reads, Part, Any, either, is-true, some_name, both_true}
 
 -- ---- the first token of a formula has its nesting

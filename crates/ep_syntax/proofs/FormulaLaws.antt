@@ -20,7 +20,7 @@ use Rattle.ep_syntax.proofs.Layers.{Layer, formulas_at, first_text, formed-roll,
 use Rattle.ep_syntax.proofs.DeepLaws.{opened_law, too_deep_reads}
 use Rattle.ep_syntax.proofs.ParenLaws.{made_from_first}
 use Rattle.ep_reader.proofs.CallerLemmas as reader
-use Rattle.ep_syntax.proofs.TreeEquations as eq
+use Rattle.ep_tree.proofs.CallerLemmas as eq
 use Rattle.ep_tree.specs.Grammar.{formulas}
 use Rattle.ep_reader.proofs.CallerLemmas.{each-list_all, list_all-each, and_true, Outcome, both, Made, Reads, Part, then, less, opened_reads, name_part, names_one, both_true, IsEmpty, whole_outcome}
 

@@ -20,7 +20,7 @@ use Rattle.ep_tree.specs.Terminals.{is}
 use Rattle.ep_tree.specs.Spelling.{between, formula_at}
 use Rattle.ep_tree.specs.Spelling as spell
 use Rattle.ep_tree.specs.Terminals.{text_of, is_name}
-use Rattle.ep_syntax.proofs.TreeEquations as eq
+use Rattle.ep_tree.proofs.CallerLemmas as eq
 use Rattle.ep_reader.proofs.CallerLemmas.{Follow, Agree, Reads, is-true, both_true}
 
 abbrev pub Layer : Type 0

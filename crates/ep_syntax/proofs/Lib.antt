@@ -1,6 +1,5 @@
 pub mod FormulaSteps
 pub mod AtomLaws
-pub mod TreeEquations
 pub mod Layers
 pub mod ParenLaws
 pub mod DeepLaws

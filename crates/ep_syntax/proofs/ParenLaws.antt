@@ -23,7 +23,7 @@ use Rattle.ep_tree.specs.declared.tree.AtomTree.{AtomTree}
 use Rattle.ep_syntax.proofs.AtomLaws.{NotOpen}
 use Rattle.ep_syntax.proofs.Layers.{Layer, formulas_at, first_text, rest_marks, rest_texts, texts-out, formed-out, formed-roll, formula_long, lead, lead-first, name-first, starter-text, some_formula}
 use Rattle.ep_reader.proofs.CallerLemmas as reader
-use Rattle.ep_syntax.proofs.TreeEquations as eq
+use Rattle.ep_tree.proofs.CallerLemmas as eq
 use Rattle.ep_reader.proofs.CallerLemmas.{and_true, Follow, both, both_then, Makes, Made, Agree-heads, behind_of, behind-flat_map, each_of, behind_part, rest_part, follow_rest, Agree, opened_reads, Reads, Part, Any, Next, pair, then, made_by, made_all, made_far, Witness, either, next_lacks, plain, plain_reads, plain_part, names_one, name_part, some_name, both_true}
 
 -- ---- and, or and the closing parenthesis

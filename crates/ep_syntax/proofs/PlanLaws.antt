@@ -1,29 +1,30 @@
 -- The law of the reader of plan files.
-use Rattle.std.proofs.Common.{◌≡◌, ℕ, Bool, true, false, List, [], ◌∷◌, map, Result, Err, IfErr, refl, sym, ap, ◌∙◌, subst, arith, ◌⊎◌, inl, inr}
+use Rattle.std.proofs.Common.{◌≡◌, ℕ, Bool, true, false, List, [], ◌∷◌, ◌++◌, map, Option, Some, None, IfSome, Result, Err, IfErr, refl, sym, ap, ◌∙◌, subst, arith, append_assoc, ◌⊎◌, inl, inr}
 use Rattle.std.specs.List.{flat_map}
 use Rattle.std.proofs.lemmas.Bool.{false≢true}
+use Rattle.ep_tree.specs.declared.terminal.Terminal.{Terminal}
 use Rattle.ep_tree.specs.declared.terminal.Terminal.TheVariants as the
 use Rattle.ep_tree.specs.declared.tree.Name.{Name}
 use Rattle.ep_tree.specs.declared.tree.CallTree.{CallTree}
 use Rattle.ep_tree.specs.declared.tree.PlanTree.{PlanTree}
-use Rattle.ep_tree.specs.Bare.{bare_call}
-use Rattle.ep_tree.specs.Formed.{IsFormedCall}
+use Rattle.ep_tree.specs.Bare.{bare_name, bare_call}
+use Rattle.ep_tree.specs.Formed.{IsFormedName, IsFormedCount, IsFormedCall}
 use Rattle.ep_tree.specs.Grammar.{Grammar, plans, IsDeep}
-use Rattle.ep_tree.specs.Marks.{fixed, named, IsShallow}
+use Rattle.ep_tree.specs.Marks.{Mark, fixed, named, texts, IsShallow}
 use Rattle.ep_base.specs.Refusals.{OrWant}
 use Rattle.ep_lex.specs.Tokens.{spellings}
 use Rattle.ep_reader.specs.declared.text.TextError.{TextError}
 use Rattle.ep_reader.specs.declared.text.TextError.TheVariants as error
 use Rattle.ep_reader.specs.declared.text.ParsedText.{ParsedText}
 use Rattle.ep_reader.specs.Texts.{IsDepthFault, IsTextFault}
-use Rattle.ep_syntax.specs.PlanReading.{call, heading, plan}
-use Rattle.ep_reader.specs.Reading.{Token, each, whole}
+use Rattle.ep_syntax.specs.PlanReading.{call, title, Heading, uncosted, costed, heading, plan}
+use Rattle.ep_reader.specs.Reading.{Token, begins, each, whole}
 use Rattle.ep_tree.specs.Terminals.{is}
 use Rattle.ep_tree.specs.Spelling as spell
 use Rattle.ep_tree.specs.Spelling.{behind}
 use Rattle.ep_tree.specs.Terminals.{is_name}
 use Rattle.ep_syntax.proofs.AtomLaws.{NotOpen, arguments_part}
-use Rattle.ep_reader.proofs.CallerLemmas.{Outcome, both, each_of, each_part, Reads, Part, Any, Next, pair, then, made_all, is-true, next_lacks, plain, plain_reads, plain_part, names_one, name_part, some_name, IsEmpty, whole_outcome, Flat, count_part, flat_append, flat_none, flat_shallow}
+use Rattle.ep_reader.proofs.CallerLemmas.{Agree, Agree-heads, Follow, Outcome, both, Made, each_of, each_part, behind_of, keyed_part, Part, Any, Next, pair, then, made_by, made_all, either, is-true, next_lacks, plain_reads, plain_part, names_one, name_part, some_name, IsEmpty, whole_outcome, Flat, counts_of, count_part, flat_append, flat_none, flat_shallow}
 
 -- ---- calls
 
@@ -54,22 +55,61 @@ calls_part = each_part is_name calls_one NotOpen (Next the.End) call call_part (
 
 -- ---- plan files
 
-abbrev heading_of : Grammar (((ℕ × ℕ) × ℕ) × Name)
-heading_of = both (both (both (plain the.Plan) (plain the.One)) (plain the.Task)) names_one
+abbrev titles_of : Terminal → Grammar Name
+titles_of version = behind_of version (behind_of the.Task names_one)
 
-heading_reads : (n : ℕ) (ts : List Token) → Reads heading_of Any n ts (heading n ts)
+title_part : {F : Follow} (version : Terminal) → Part (titles_of version) F (title version)
+title_part version = keyed_part version (keyed_part the.Task name_part)
+
+abbrev costs_of : Grammar ℕ
+costs_of = behind_of the.Cost (counts_of IsFormedCount)
+
+-- what stands between `plan` and `actions`
+abbrev headings_of : Grammar Heading
+headings_of = record {
+  marks = λ h. spell.version h.1 ∷ fixed the.Task ∷ named h.0 ∷ spell.cost h.1;
+  IsFormed = λ h. IsFormedName h.0 × IfSome h.1 IsFormedCount;
+  bare = λ h. (bare_name h.0, h.1);
+}
+
+uncosted_back : (ts : List Token) → begins the.One ts ≡ true → (b : Heading) (more : List Token) → headings_of.IsFormed b → Agree 1 ts (texts (headings_of.marks b) ++ more)
+    → Made (titles_of the.One) uncosted b
+uncosted_back ts e (task, None) more f a = record { from = task; formed = f.0; is = refl }
+uncosted_back ts e (task, Some c) more f a = absurd (false≢true (sym (Agree-heads (is the.One) ts _ a) ∙ e))
+
+costed_back : (ts : List Token) → begins the.One ts ≡ false → (b : Heading) (more : List Token) → headings_of.IsFormed b → Agree 1 ts (texts (headings_of.marks b) ++ more)
+    → Made (both (titles_of the.Two) costs_of) costed b
+costed_back ts e (task, None) more f a = absurd (false≢true (sym e ∙ Agree-heads (is the.One) ts _ a))
+costed_back ts e (task, Some c) more f a = record { from = (task, c); formed = f; is = refl }
+
+heading_part : Part headings_of Any heading
 unfolding heading
-heading_reads n ts = then (then (then (plain_reads the.Plan n ts) (plain_part the.One)) (plain_part the.Task)) name_part
+heading_part = record {
+  reads = λ n ts. either (begins the.One ts)
+      (λ e. made_by (record { marks = λ _ _. refl; formed = λ _ f. (f, tt); bare = λ _. refl }) ((title_part the.One).reads n ts) (λ b more f s a. uncosted_back ts e b more f a))
+      (λ e. made_by (record { marks = λ _ _. refl; formed = λ _ f. f; bare = λ _. refl }) (then ((title_part the.Two).reads n ts) (keyed_part the.Cost count_part))
+      (λ b more f s a. costed_back ts e b more f a));
+  value = (some_name, None);
+  formed = (refl, tt);
+}
+
+regroup : (a b c d e g : Mark) (xs cs es : List Mark) → a ∷ b ∷ c ∷ d ∷ (xs ++ (e ∷ g ∷ (cs ++ es))) ≡ ((((a ∷ b ∷ c ∷ d ∷ xs) ++ e ∷ []) ++ g ∷ []) ++ cs) ++ es
+regroup a b c d e g xs cs es = simp append_assoc
 
 pub plan_part : Part plans Any plan
 unfolding plan
 plan_part = record {
   reads = λ n ts. made_all
-      (record { marks = λ a _. refl; formed = λ _ f. (f.0.0.0.0.1, f.0.0.1, f.0.1); bare = λ _. refl })
-      (λ b f. record { from = (((((((0, 0), 0), b.task), 0), b.count), b.calls), 0); formed = (((((((tt, tt), tt), f.0), tt), f.1), f.2), tt); is = refl })
-      (pair (then (then (then (heading_reads n ts) (plain_part the.Actions)) count_part) calls_part) (plain_part the.End) (λ _ _ _ _. refl));
-  value = record { task = some_name; count = 0; calls = [] };
-  formed = (refl, omega arith, tt);
+      (record {
+        marks = λ a _. regroup (fixed the.Plan) (spell.version a.0.0.0.0.1.1) (fixed the.Task) (named a.0.0.0.0.1.0) (fixed the.Actions) (spell.count a.0.0.1) (spell.cost a.0.0.0.0.1.1)
+            (flat_map spell.call a.0.1) (fixed the.End ∷ []);
+        formed = λ _ f. (f.0.0.0.0.1.0, f.0.0.0.0.1.1, f.0.0.1, f.0.1);
+        bare = λ _. refl;
+      })
+      (λ b f. record { from = (((((0, (b.task, b.cost)), 0), b.count), b.calls), 0); formed = (((((tt, (f.0, f.1)), tt), f.2), f.3), tt); is = refl })
+      (pair (then (then (then (then (plain_reads the.Plan n ts) heading_part) (plain_part the.Actions)) count_part) calls_part) (plain_part the.End) (λ _ _ _ _. refl));
+  value = record { task = some_name; cost = None; count = 0; calls = [] };
+  formed = (refl, tt, omega arith, tt);
 }
 
 pub plan_outcome : (ts : List Token) → Outcome plans IsEmpty 0 ts (whole plan 0 ts)
@@ -89,8 +129,22 @@ calls_flat : (cs : List CallTree) → Flat (flat_map spell.call cs)
 calls_flat [] = tt
 calls_flat (c ∷ cs) = flat_append (spell.call c) (flat_map spell.call cs) (refl, arguments_flat c.args) (calls_flat cs)
 
+version_flat : (cost : Option ℕ) → Flat (spell.version cost ∷ [])
+version_flat None = (refl, tt)
+version_flat (Some n) = (refl, tt)
+
+cost_flat : (cost : Option ℕ) → Flat (spell.cost cost)
+cost_flat None = tt
+cost_flat (Some n) = (refl, (refl, tt))
+
 plan_flat : (p : PlanTree) → Flat (spell.plan p)
-plan_flat p = (refl, (refl, (refl, (refl, (refl, (refl, flat_append (flat_map spell.call p.calls) (fixed the.End ∷ []) (calls_flat p.calls) (refl, tt)))))))
+plan_flat p = (
+  refl,
+  (
+    (version_flat p.cost).0,
+    (refl, (refl, flat_append (spell.cost p.cost) _ (cost_flat p.cost) (refl, (refl, flat_append (flat_map spell.call p.calls) (fixed the.End ∷ []) (calls_flat p.calls) (refl, tt))))),
+  ),
+)
 
 pub plan_shallow : (p : PlanTree) → IsShallow (spell.plan p)
 plan_shallow p = flat_shallow (spell.plan p) (plan_flat p)

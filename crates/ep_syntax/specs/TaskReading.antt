@@ -1,5 +1,6 @@
 -- How tasks are read.
-use Rattle.std.specs.Prelude.{ℕ, Bool, true, false, if◌then◌else◌, List, [], Option, Ok}
+use Rattle.std.specs.Prelude.{ℕ, Bool, false, if◌then◌else◌, List, [], Option, Ok}
+use Rattle.ep_bounds.specs.declared.bounds.TheConstants.{MOST_COST}
 use Rattle.ep_tree.specs.declared.terminal.Terminal.{Terminal}
 use Rattle.ep_tree.specs.declared.terminal.Terminal.TheVariants as the
 use Rattle.ep_tree.specs.declared.tree.Name.{Name}
@@ -25,7 +26,7 @@ use Rattle.ep_tree.specs.declared.tree.BodyTree.TheVariants.{Announce, Private, 
 use Rattle.ep_tree.specs.declared.tree.SchemaTree.{SchemaTree}
 use Rattle.ep_tree.specs.declared.tree.FormulaTree.{FormulaTree}
 use Rattle.ep_syntax.specs.FormulaReading.{arguments, atom, group, params, outer_formula}
-use Rattle.ep_reader.specs.Reading.{Reader, seq, made, begins, key, name, each, some_each, behind_key, listed, any_listed, within, optional, braced}
+use Rattle.ep_reader.specs.Reading.{Reader, seq, made, begins, key, name, each, some_each, behind_key, listed, any_listed, within, optional, flag, count_within, braced}
 use Rattle.ep_tree.specs.Terminals.{is, is_name}
 
 -- '{' [ atoms ] '}'
@@ -171,7 +172,7 @@ body n ts =
     else (if begins the.Assign ts then assignment n ts else events n ts)))
 
 unfoldable pub distinct : Reader Bool
-distinct n ts = if begins the.Distinct ts then made (λ _. true) (key the.Distinct n ts) else Ok (false, n, ts)
+distinct n ts = flag the.Distinct (key the.Distinct) n ts
 
 abbrev pub Signature : Type 0
 Signature = List ParamTree × Bool
@@ -179,20 +180,31 @@ Signature = List ParamTree × Bool
 unfoldable pub signature : Reader Signature
 signature n ts = if begins the.OpenParen ts then seq (params n ts) distinct else Ok (([], false), n, ts)
 
-abbrev pub schema_of : ((ℕ × Name) × Signature) × BodyTree → SchemaTree
-schema_of p = record { name = p.0.0.1; params = p.0.1.0; distinct = p.0.1.1; body = p.1 }
+unfoldable pub cost : Reader (Option ℕ)
+cost n ts = optional the.Cost (count_within 1 MOST_COST) n ts
+
+abbrev pub schema_of : (((ℕ × Name) × Signature) × Option ℕ) × BodyTree → SchemaTree
+schema_of p = record { name = p.0.0.0.1; params = p.0.0.1.0; distinct = p.0.0.1.1; cost = p.0.1; body = p.1 }
 
 unfoldable pub schema : Reader SchemaTree
-schema n ts = made schema_of (seq (seq (seq (key the.Action n ts) name) signature) (braced body))
+schema n ts = made schema_of (seq (seq (seq (seq (key the.Action n ts) name) signature) cost) (braced body))
 
 -- ---- tasks
 
+-- 'frames' 's5' ';'
+abbrev pub frames_line : Reader ((ℕ × ℕ) × ℕ)
+frames_line n ts = seq (seq (key the.Frames n ts) (key the.S5)) (key the.Semicolon)
+
+unfoldable pub frames : Reader Bool
+frames n ts = flag the.Frames frames_line n ts
+
 abbrev pub Declarations : Type 0
-Declarations = (((ℕ × Name) × ℕ) × Option (List TypeTree)) × List ObjectTree
+Declarations = ((((ℕ × Name) × ℕ) × Bool) × Option (List TypeTree)) × List ObjectTree
 
 abbrev pub task_of : (((Declarations × List FluentTree) × InitTree) × List SchemaTree) × FormulaTree → TaskTree
 task_of p = record {
-  name = p.0.0.0.0.0.0.0.1;
+  name = p.0.0.0.0.0.0.0.0.1;
+  s5 = p.0.0.0.0.0.0.1;
   types = p.0.0.0.0.0.1;
   objects = p.0.0.0.0.1;
   fluents = p.0.0.0.1;
@@ -202,7 +214,7 @@ task_of p = record {
 }
 
 unfoldable pub declarations : Reader Declarations
-declarations n ts = seq (seq (seq (seq (key the.Task n ts) name) (key the.Semicolon)) types) objects
+declarations n ts = seq (seq (seq (seq (seq (key the.Task n ts) name) (key the.Semicolon)) frames) types) objects
 
 unfoldable pub task : Reader TaskTree
 task n ts = made task_of (seq (seq (seq (seq (declarations n ts) fluents) init) (each (is the.Action) schema)) (statement the.Goal))

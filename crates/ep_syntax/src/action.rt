@@ -8,6 +8,7 @@ use crate::atom::{parse_group, parse_params};
 use crate::initial::{parse_designated, parse_statement};
 use crate::language::TaskLanguage;
 use ep_base::List;
+use ep_bounds::MOST_COST;
 use ep_reader::{Parse, Reader, SyntaxError, parse_braced_each, parse_each, parse_some_each};
 use ep_tree::{
     AtomTree, BodyTree, EventTree, FormulaTree, ParamTree, SchemaTree, SetTree, Terminal,
@@ -156,6 +157,20 @@ fn parse_signature(
     }
 }
 
+// The stated cost, if there is one.
+#[tactic(auto, unfolding(crate::specs::TaskReading::cost))]
+fn parse_cost(reader: &mut Reader) -> Result<Option<u32>, SyntaxError>
+    ensures { Gives reading.cost reader.old result reader.new }
+{
+    if reader.sees(Terminal::Cost) {
+        reader.expect(Terminal::Cost)?;
+        let cost = reader.expect_count_within(1, MOST_COST)?;
+        Ok(Some(cost))
+    } else {
+        Ok(None)
+    }
+}
+
 impl Parse<TaskLanguage> for SchemaTree {
     ghost use Rattle.ep_tree.specs.Terminals.{is};
     ghost use Rattle.ep_syntax.specs.TaskReading.{schema};
@@ -174,6 +189,7 @@ impl Parse<TaskLanguage> for SchemaTree {
         reader.expect(Terminal::Action)?;
         let name = reader.expect_name(alloc)?;
         let (params, distinct) = parse_signature(reader, alloc)?;
+        let cost = parse_cost(reader)?;
         reader.expect(Terminal::OpenBrace)?;
         let body = parse_body(reader, alloc)?;
         reader.expect(Terminal::CloseBrace)?;
@@ -181,6 +197,7 @@ impl Parse<TaskLanguage> for SchemaTree {
             name,
             params,
             distinct,
+            cost,
             body,
         })
     }

@@ -1,4 +1,4 @@
-//! Readers of the types, objects and fluents of a task.
+//! Readers of what stands before the initial state of a task.
 
 ghost use Rattle.std.specs.Prelude.{◌≡◌};
 ghost use Rattle.ep_reader.specs.Gives.{Gives};
@@ -10,6 +10,21 @@ use ep_base::List;
 use ep_reader::{Parse, Reader, SyntaxError, parse_braced_each, parse_listed};
 use ep_tree::{FluentTree, ObjectTree, Terminal, TypeTree};
 use std::alloc::Global;
+
+/// Whether the relations are to be equivalences, as `frames s5;` says.
+#[tactic(auto, unfolding(crate::specs::TaskReading::frames))]
+pub fn parse_frames(reader: &mut Reader) -> Result<bool, SyntaxError>
+    ensures { Gives reading.frames reader.old result reader.new }
+{
+    if reader.sees(Terminal::Frames) {
+        reader.expect(Terminal::Frames)?;
+        reader.expect(Terminal::S5)?;
+        reader.expect(Terminal::Semicolon)?;
+        Ok(true)
+    } else {
+        Ok(false)
+    }
+}
 
 impl Parse<TaskLanguage> for TypeTree {
     ghost use Rattle.ep_tree.specs.Terminals.{is_name};

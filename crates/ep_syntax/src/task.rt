@@ -1,6 +1,6 @@
 //! The reader of tasks.
 
-use crate::declarations::{parse_fluents, parse_objects, parse_types};
+use crate::declarations::{parse_fluents, parse_frames, parse_objects, parse_types};
 use crate::initial::{parse_init, parse_statement};
 use crate::language::TaskLanguage;
 use ep_reader::{Parse, Reader, SyntaxError, parse_each};
@@ -25,6 +25,7 @@ impl Parse<TaskLanguage> for TaskTree {
         reader.expect(Terminal::Task)?;
         let name = reader.expect_name(alloc)?;
         reader.expect(Terminal::Semicolon)?;
+        let s5 = parse_frames(reader)?;
         let types = parse_types(reader, alloc)?;
         let objects = parse_objects(reader, alloc)?;
         let fluents = parse_fluents(reader, alloc)?;
@@ -33,6 +34,7 @@ impl Parse<TaskLanguage> for TaskTree {
         let goal = parse_statement(reader, alloc, Terminal::Goal)?;
         Ok(TaskTree {
             name,
+            s5,
             types,
             objects,
             fluents,

@@ -24,6 +24,26 @@ links all all ;
 goal knows ann heads ;
 ";
 
+const TOLL: &str = "task toll; frames s5; objects { ann : agent; } fluents { mid; } \
+    init { world o { } designated { o } } action fly cost 10 { assign when true { mid := true; } } \
+    action walk(a : agent) distinct cost 100 { announce mid; } goal mid;";
+
+const TOLL_LAYOUT: &str = "task toll ;
+frames s5 ;
+objects { ann : agent ;
+}
+fluents { mid ;
+}
+init {
+world o { }
+designated { o } }
+action fly cost 10 { assign when true { mid := true ;
+} }
+action walk ( a : agent ) distinct cost 100 { announce mid ;
+}
+goal mid ;
+";
+
 // What stands behind the head of the coin tasks.
 const COIN_TAILS: [&str; 4] = [
     "goal knows ann heads;",
@@ -70,6 +90,13 @@ fn layout_of_coin(rt: HostRuntime) -> Result<(), Fail> {
     Ok(())
 }
 
+#[test]
+fn layout_with_costs_and_frames(rt: HostRuntime) -> Result<(), Fail> {
+    let text = layout(&rt, rt.alloc(), TOLL.as_bytes())?;
+    assert_eq!(rt; text.as_slice(), TOLL_LAYOUT.as_bytes());
+    Ok(())
+}
+
 // A layout is its own layout.
 fn check_again(rt: &impl Abort, alloc: Global, text: &str) -> Result<(), Fail> {
     let first = layout(rt, alloc, text.as_bytes())?;
@@ -84,6 +111,7 @@ fn layouts_are_read_again(rt: HostRuntime) -> Result<(), Fail> {
         let text = format!(in rt.alloc(); "{COIN}{tail}")?;
         check_again(&rt, rt.alloc(), text.as_str())?;
     }
+    check_again(&rt, rt.alloc(), TOLL)?;
     for text in TASKS {
         check_again(&rt, rt.alloc(), text)?;
     }

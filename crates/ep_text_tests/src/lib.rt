@@ -2,6 +2,8 @@
 #![tactic(auto)]
 
 #[cfg(test)]
+mod costs_and_frames;
+#[cfg(test)]
 mod layouts;
 #[cfg(test)]
 mod lexing;

@@ -15,6 +15,12 @@ twice peek
 ( ann # the first
 , bob ) end";
 
+// Version 2, token by token.
+const COSTED: [&str; 15] = [
+    "plan", "2", "task", "coin", "cost", "12", "actions", "1", "peek", "(", "ann", ",", "bob", ")",
+    "end",
+];
+
 fn plan_tree(
     rt: &impl Abort,
     alloc: Global,
@@ -59,8 +65,16 @@ fn calls_spread_over_lines(rt: HostRuntime) -> Result<(), Fail> {
 fn refused_texts(rt: HostRuntime) -> Result<(), Fail> {
     let rows = [
         ("plan 1\ntask coin\nactions 1\npeek(an", 9),
-        ("plan 2 task coin actions 0 end", 1),
         ("plan 01 task coin actions 0 end", 1),
+        ("plan 3 task coin cost 7 actions 0 end", 1),
+        ("plan 12 task coin actions 0 end", 1),
+        ("plan two task coin cost 7 actions 0 end", 1),
+        ("plan task coin actions 0 end", 1),
+        ("plan 1 task coin cost 7 actions 0 end", 4),
+        ("plan 2 task coin actions 0 end", 4),
+        ("plan 2 task coin cost 07 actions 0 end", 5),
+        ("plan 2 task coin cost actions 0 end", 5),
+        ("plan 2 task coin cost 7 cost 7 actions 0 end", 6),
         ("plan 1 task end actions 0 end", 3),
         ("plan 1 task coin actions 01 peek end", 5),
         ("plan 1 task coin actions 1 peek() end", 8),
@@ -71,6 +85,47 @@ fn refused_texts(rt: HostRuntime) -> Result<(), Fail> {
     for (text, token) in rows {
         let found = plan_tree(&rt, rt.alloc(), text)?.err();
         assert_eq!(rt; found, Some(SyntaxError::Syntax { token }), "{text}");
+    }
+    Ok(())
+}
+
+fn check_costed(rt: &impl Abort, tree: &PlanTree, cost: Option<u32>) {
+    assert_eq!(rt; tree.cost, cost);
+    assert_eq!(rt; tree.task.text.as_slice(), b"coin".as_slice());
+    assert_eq!(rt; tree.count, 1);
+    let calls = tree.calls.as_slice();
+    assert_eq!(rt; calls.len(), 1);
+}
+
+// The tokens that are left are the first tokens of a plan file, so the fault is their end.
+#[test]
+fn version_2_cut_at_each_token(rt: HostRuntime) -> Result<(), Fail> {
+    let mut text = String::new(rt.alloc());
+    for (left, word) in COSTED.iter().enumerate() {
+        let found = plan_tree(&rt, rt.alloc(), text.as_str())?.err();
+        let token = left as u32;
+        assert_eq!(rt; found, Some(SyntaxError::Syntax { token }), "{text}");
+        text = format!(in rt.alloc(); "{text} {word}")?;
+    }
+    let tree = plan_tree(&rt, rt.alloc(), text.as_str())??;
+    check_costed(&rt, &tree, Some(12));
+    Ok(())
+}
+
+#[test]
+fn costs_of_plan_files(rt: HostRuntime) -> Result<(), Fail> {
+    let rows = [
+        ("plan 1 task coin actions 1 peek end", None),
+        ("plan 2 task coin cost 0 actions 1 peek end", Some(0)),
+        ("plan 2 task coin cost 101 actions 1 peek end", Some(101)),
+        (
+            "plan 2 task coin cost 999999999 actions 1 peek end",
+            Some(999_999_999),
+        ),
+    ];
+    for (text, cost) in rows {
+        let tree = plan_tree(&rt, rt.alloc(), text)??;
+        check_costed(&rt, &tree, cost);
     }
     Ok(())
 }

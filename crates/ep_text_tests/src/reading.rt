@@ -3,6 +3,7 @@
 ghost use Rattle.std.specs.Prelude.{IfOk};
 ghost use Rattle.ep_lex.specs.Tokens.{AreTokens};
 ghost use Rattle.ep_tree.specs.Formed.{IsFormedTask};
+ghost use Rattle.ep_tree.specs.Grammar.{IsRead};
 ghost use Rattle.ep_tree.specs.Marks.{IsShallow};
 ghost use Rattle.ep_tree.specs.Spelling as spell;
 
@@ -21,11 +22,14 @@ pub fn tokens_of(rt: &impl Abort, alloc: Global, bytes: &[u8]) -> Result<TokenLi
     tokens(alloc, bytes)
 }
 
+#[tactic(auto, using(ep_tree::proofs::ReadLemmas::is_read))]
 pub fn task_tree(rt: &impl Abort, alloc: Global, bytes: &[u8]) -> Result<TaskTree, Fail>
     ensures formed { IfOk result IsFormedTask }
     ensures shallow { IfOk result (λ tree. IsShallow (spell.task tree)) }
+    ensures read { IfOk result IsRead }
 {
     let found = tokens_of(rt, alloc, bytes)?;
+    let _count = found.count();
     Ok(read_task(alloc, bytes, &found)?)
 }
 
@@ -43,3 +47,5 @@ pub fn typed_task(rt: &impl Abort, alloc: Global, bytes: &[u8]) -> Result<Typed,
 pub fn discard_typed(_typed: Typed) {}
 
 pub fn discard_formula(_formula: FormulaTree) {}
+
+pub fn discard_task(_tree: TaskTree) {}

@@ -4,3 +4,4 @@ pub mod FourLemmas
 pub mod ProductUnique
 pub mod EquivalenceLemmas
 pub mod ClassLemmas
+pub mod TriedLemmas

@@ -1,7 +1,8 @@
 -- States and event models whose relations are equivalences, the models of S5: van Ditmarsch, van der Hoek and Kooi,
 -- Dynamic Epistemic Logic, chapters 2 and 6.
-use Rattle.std.specs.Prelude.{◌≡◌, ℕ, ◌<◌, List, length}
-use Rattle.std.specs.List.{AllByRecursion}
+use Rattle.std.specs.Prelude.{◌≡◌, ℕ, ◌<◌, Bool, ◌&&◌, List, length}
+use Rattle.std.specs.List.{AllByRecursion, list_all}
+use Rattle.ep_logic.specs.Numbers.{has_pair, table}
 use Rattle.ep_theory.specs.Rising.{IsIn}
 use Rattle.ep_theory.specs.Kripke.{Kripke, successors}
 use Rattle.ep_theory.specs.Events.{EventModel}
@@ -12,6 +13,13 @@ pub record IsEquivalence (n : ℕ) (pairs : List (ℕ × ℕ)) : Type 0 where
   pub reflexive : (w : ℕ) → w < n → IsIn (w, w) pairs
   pub symmetric : (w v : ℕ) → IsIn (w, v) pairs → IsIn (v, w) pairs
   pub transitive : (w v u : ℕ) → IsIn (w, v) pairs → IsIn (v, u) pairs → IsIn (w, u) pairs
+
+-- the same by trying every pair (law `equivalences_are_tried`)
+abbrev pub is_equivalence : ℕ → List (ℕ × ℕ) → Bool
+is_equivalence n pairs =
+    list_all (λ w. has_pair pairs w w) (table (λ w. w) n)
+    && list_all (λ p. has_pair pairs p.1 p.0) pairs
+    && list_all (λ p. list_all (λ u. has_pair pairs p.0 u) (successors pairs p.1)) pairs
 
 -- the pairs of every agent are an equivalence of the worlds
 abbrev pub IsS5 : Kripke → Type 0

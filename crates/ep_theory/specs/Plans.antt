@@ -1,7 +1,9 @@
 -- Runs of plans. This project's own, after the sequential plans of Bolander and Andersen, Epistemic planning for
 -- single- and multi-agent systems (2011): a plan is a list of actions, and every action has to be applicable in the
 -- state that those before it leave.
-use Rattle.std.specs.Prelude.{◌≡◌, ℕ, List, [], ◌∷◌, Option, Some, None, slice_get, option_and_then}
+use Rattle.std.specs.Prelude.{◌≡◌, ℕ, List, [], ◌∷◌, length, map, sum, Option, Some, None, slice_get, slice_index_or, option_and_then}
+use Rattle.ep_bounds.specs.declared.bounds.Measure.{Measure}
+use Rattle.ep_bounds.specs.declared.bounds.Measure.TheVariants.{Length, Cost}
 use Rattle.ep_logic.specs.declared.ids.ActionId.{ActionId}
 use Rattle.ep_theory.specs.Kripke.{Kripke}
 use Rattle.ep_theory.specs.Truth.{Satisfies}
@@ -32,3 +34,12 @@ pub record Reaches (T : PlanningTask) (p : List ActionId) : Type 0 where
   pub state : Kripke
   pub is_after : after T p ≡ Some state
   pub goal : Satisfies state T.goal
+
+-- the cost of the action at a place
+abbrev pub cost_at : PlanningTask → ActionId → ℕ
+cost_at T a = slice_index_or T.costs a.n 0
+
+-- what a plan measures: its number of actions, or the sum of their costs
+abbrev pub weight : PlanningTask → Measure → List ActionId → ℕ
+weight T Length p = length p
+weight T Cost p = sum (map (cost_at T) p)

@@ -50,6 +50,6 @@ pub fn bisimilar_tasks_are_solved_alike()
 /// Where each action was tried in each state of a list, and its product stands there, no plan within the bound reaches the
 /// goal.
 pub fn a_closed_list_excludes_plans()
-    ensures { (T : PlanningTask) (cost : ℕ → ℕ) (bound : ℕ) (entries : List (Kripke × ℕ)) → IsPlanningTask T →
-        Closed T cost bound entries → HasNoPlan T cost bound }
+    ensures { (T : PlanningTask) (bound : ℕ) (entries : List (Kripke × ℕ)) → IsPlanningTask T → Closed T bound entries →
+        HasNoPlan T bound }
 {}

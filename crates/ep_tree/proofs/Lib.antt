@@ -1,3 +1,5 @@
+pub mod TreeEquations
 pub mod MarkTexts
 pub mod NestingLemmas
+pub mod ReadLemmas
 pub mod CallerLemmas

@@ -114,11 +114,12 @@ bare_body (Assign guard sets) = Assign (bare_formula guard) (map bare_set sets)
 bare_body (Events events names links) = Events (map bare_event events) (bare_names names) (map bare_link links)
 
 abbrev pub bare_schema : SchemaTree → SchemaTree
-bare_schema s = record { name = bare_name s.name; params = map bare_param s.params; distinct = s.distinct; body = bare_body s.body }
+bare_schema s = record { name = bare_name s.name; params = map bare_param s.params; distinct = s.distinct; cost = s.cost; body = bare_body s.body }
 
 abbrev pub bare_task : TaskTree → TaskTree
 bare_task t = record {
   name = bare_name t.name;
+  s5 = t.s5;
   types = bare_types t.types;
   objects = map bare_object t.objects;
   fluents = map bare_fluent t.fluents;
@@ -131,4 +132,4 @@ abbrev pub bare_call : CallTree → CallTree
 bare_call c = record { name = bare_name c.name; args = bare_names c.args }
 
 abbrev pub bare_plan : PlanTree → PlanTree
-bare_plan p = record { task = bare_name p.task; count = p.count; calls = map bare_call p.calls }
+bare_plan p = record { task = bare_name p.task; cost = p.cost; count = p.count; calls = map bare_call p.calls }

@@ -1,6 +1,7 @@
 -- Well-formed trees: each name is one, and the lists that the grammar makes non-empty are so.
-use Rattle.std.specs.Prelude.{ℕ, ◌<◌, ◌^◌, Bool, true, ◌&&◌, nat_le, length, List, [], ◌∷◌, IsTrue, IsFalse, IfSome}
+use Rattle.std.specs.Prelude.{ℕ, ◌<◌, ◌≤◌, ◌^◌, Bool, true, ◌&&◌, nat_le, length, List, [], ◌∷◌, IsTrue, IsFalse, IfSome}
 use Rattle.std.specs.List.{AllByRecursion, list_all}
+use Rattle.ep_bounds.specs.declared.bounds.TheConstants.{MOST_COST}
 use Rattle.ep_tree.specs.declared.tree.Name.{Name}
 use Rattle.ep_tree.specs.declared.tree.TaskTree.{TaskTree}
 use Rattle.ep_tree.specs.declared.tree.TypeTree.{TypeTree}
@@ -151,8 +152,12 @@ abbrev pub IsFormedSignature : List ParamTree → Bool → Type 0
 IsFormedSignature [] distinct = IsFalse distinct
 IsFormedSignature (p ∷ ps) distinct = IsFormedParam p × AllByRecursion IsFormedParam ps
 
+-- a cost that an action may have
+abbrev pub IsFormedCost : ℕ → Type 0
+IsFormedCost cost = (1 ≤ cost) × (cost ≤ MOST_COST)
+
 abbrev pub IsFormedSchema : SchemaTree → Type 0
-IsFormedSchema s = IsFormedName s.name × IsFormedSignature s.params s.distinct × IsFormedBody s.body
+IsFormedSchema s = IsFormedName s.name × IsFormedSignature s.params s.distinct × IfSome s.cost IsFormedCost × IsFormedBody s.body
 
 -- ---- whole texts
 
@@ -164,6 +169,9 @@ IsFormedTask t =
 abbrev pub IsFormedCall : CallTree → Type 0
 IsFormedCall c = IsFormedName c.name × AllByRecursion IsFormedName c.args
 
--- a count has at most 9 digits
+-- a number of at most 9 digits
+abbrev pub IsFormedCount : ℕ → Type 0
+IsFormedCount count = count < 10 ^ 9
+
 abbrev pub IsFormedPlan : PlanTree → Type 0
-IsFormedPlan p = IsFormedName p.task × (p.count < 10 ^ 9) × AllByRecursion IsFormedCall p.calls
+IsFormedPlan p = IsFormedName p.task × IfSome p.cost IsFormedCount × IsFormedCount p.count × AllByRecursion IsFormedCall p.calls

@@ -186,21 +186,37 @@ abbrev pub signature : List ParamTree → Bool → List Mark
 signature [] d = []
 signature (p ∷ ps) d = fixed the.OpenParen ∷ (params (p ∷ ps) ++ (fixed the.CloseParen ∷ distinct d))
 
+-- a number in decimal
+abbrev pub count : ℕ → Mark
+count n = record { number = None; text = decimal n; nesting = None }
+
+-- nothing, or a cost
+abbrev pub cost : Option ℕ → List Mark
+cost None = []
+cost (Some n) = fixed the.Cost ∷ count n ∷ []
+
 abbrev pub schema : SchemaTree → List Mark
-schema s = fixed the.Action ∷ named s.name ∷ (signature s.params s.distinct ++ braced (body s.body))
+schema s = fixed the.Action ∷ named s.name ∷ (signature s.params s.distinct ++ (cost s.cost ++ braced (body s.body)))
 
 -- ---- whole texts
 
+-- nothing, or that the relations are equivalences
+abbrev pub frames : Bool → List Mark
+frames true = fixed the.Frames ∷ fixed the.S5 ∷ fixed the.Semicolon ∷ []
+frames false = []
+
 abbrev pub task : TaskTree → List Mark
 task t =
-    fixed the.Task ∷ named t.name ∷ fixed the.Semicolon ∷ (types t.types ++ (objects t.objects ++ (fluents t.fluents ++ (init t.init ++ (flat_map schema t.schemas ++ (fixed the.Goal ∷ (formula t.goal ++ fixed the.Semicolon ∷ [])))))))
+    fixed the.Task ∷ named t.name ∷ fixed the.Semicolon ∷ (frames t.s5 ++ (types t.types ++ (objects t.objects ++ (fluents t.fluents ++ (init t.init ++ (flat_map schema t.schemas ++ (fixed the.Goal ∷ (formula t.goal ++ fixed the.Semicolon ∷ []))))))))
 
 abbrev pub call : CallTree → List Mark
 call c = named c.name ∷ arguments c.args
 
-abbrev pub count : ℕ → Mark
-count n = record { number = None; text = decimal n; nesting = None }
+-- version 2 of plan files states a cost, and version 1 does not
+abbrev pub version : Option ℕ → Mark
+version None = fixed the.One
+version (Some n) = fixed the.Two
 
 abbrev pub plan : PlanTree → List Mark
 plan p =
-    fixed the.Plan ∷ fixed the.One ∷ fixed the.Task ∷ named p.task ∷ fixed the.Actions ∷ count p.count ∷ (flat_map call p.calls ++ fixed the.End ∷ [])
+    fixed the.Plan ∷ version p.cost ∷ fixed the.Task ∷ named p.task ∷ (cost p.cost ++ (fixed the.Actions ∷ count p.count ∷ (flat_map call p.calls ++ fixed the.End ∷ [])))

@@ -61,7 +61,9 @@ text_of the.Semicolon = codes ";"
 text_of the.Colon = codes ":"
 text_of the.Less = codes "<"
 text_of the.Equals = codes "="
+text_of the.S5 = codes "s5"
 text_of the.One = codes "1"
+text_of the.Two = codes "2"
 
 abbrev pub reserved : List Terminal
 reserved =

@@ -4,7 +4,7 @@ ghost use Rattle.std.specs.Prelude.{◌≡◌, map};
 ghost use Rattle.ep_tree.specs.Terminals.{is};
 ghost use Rattle.ep_tree.specs.Terminals.{text_of, reserved, is_reserved};
 
-/// A reserved word, a mark, or the number 1 of a plan file's first line.
+/// A reserved word, a mark, the name `s5`, or a number of the first line of a plan file.
 #[derive(Clone, Copy)]
 pub enum Terminal {
     Task,
@@ -59,7 +59,9 @@ pub enum Terminal {
     Colon,
     Less,
     Equals,
+    S5,
     One,
+    Two,
 }
 
 const RESERVED: [Terminal; 41] = [
@@ -164,7 +166,9 @@ impl Terminal {
             Terminal::Colon => b":",
             Terminal::Less => b"<",
             Terminal::Equals => b"=",
+            Terminal::S5 => b"s5",
             Terminal::One => b"1",
+            Terminal::Two => b"2",
         }
     }
 

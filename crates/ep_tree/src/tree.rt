@@ -10,9 +10,11 @@ pub struct Name {
     pub text: Text,
 }
 
-/// `types` is there where the part is written, even if it is empty.
+/// `s5` is whether the relations are to be equivalences, as `frames s5;` says. `types` is there where the part is written,
+/// even if it is empty.
 pub struct TaskTree {
     pub name: Name,
+    pub s5: bool,
     pub types: Option<List<TypeTree>>,
     pub objects: List<ObjectTree>,
     pub fluents: List<FluentTree>,
@@ -25,6 +27,7 @@ impl Drop for TaskTree {
     fn drop(self) {
         let TaskTree {
             name: _name,
+            s5: _s5,
             types: _types,
             objects: _objects,
             fluents: _fluents,
@@ -209,11 +212,12 @@ impl Drop for BodyTree {
     }
 }
 
-/// `distinct` is false where there is no parameter.
+/// `distinct` is false where there is no parameter. `cost` is the stated cost, 1 to 100.
 pub struct SchemaTree {
     pub name: Name,
     pub params: List<ParamTree>,
     pub distinct: bool,
+    pub cost: Option<u32>,
     pub body: BodyTree,
 }
 
@@ -223,6 +227,7 @@ impl Drop for SchemaTree {
             name: _name,
             params: _params,
             distinct: _distinct,
+            cost: _cost,
             body: _body,
         } = self;
     }
@@ -289,10 +294,12 @@ pub struct CallTree {
     pub args: List<Name>,
 }
 
-/// `count` is the stated number of calls.
+/// `cost` is the stated cost of the plan, which files of version 2 have, and `count` the stated number of calls; both are
+/// below 10^9.
 #[derive(Drop)]
 pub struct PlanTree {
     pub task: Name,
+    pub cost: Option<u32>,
     pub count: u32,
     pub calls: List<CallTree>,
 }

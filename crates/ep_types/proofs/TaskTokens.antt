@@ -264,12 +264,13 @@ schemas taken (e ∷ es) d =
     let vs = tasks.body_uses e.body (with_params (closed d) e.params) in
     let rest = tasks.schema_uses (taken ++ e.name.text ∷ []) es d in
     let more = flat_map spell.schema es in
-    let inner = spell.signature e.params e.distinct ++ spell.braced (spell.body e.body) in
+    let body_marks = spell.cost e.cost ++ spell.braced (spell.body e.body) in
+    let inner = spell.signature e.params e.distinct ++ body_marks in
     skip (tasks.schema_uses taken (e ∷ es) d) (fixed the.Action) (named e.name ∷ (inner ++ more))
     (first_name e.name (NewName e.name.text taken) (both (both us vs) rest) (inner ++ more)
     (joined (both us vs) rest inner more
-    (joined us vs (spell.signature e.params e.distinct) (spell.braced (spell.body e.body)) (signature e.params e.distinct (closed d))
-    (in_braces vs (spell.body e.body) (body e.body (with_params (closed d) e.params))))
+    (joined us vs (spell.signature e.params e.distinct) body_marks (signature e.params e.distinct (closed d))
+    (behind vs (spell.cost e.cost) (spell.braced (spell.body e.body)) (in_braces vs (spell.body e.body) (body e.body (with_params (closed d) e.params)))))
     (schemas (taken ++ e.name.text ∷ []) es d)))
 
 -- ---- the task
@@ -302,6 +303,7 @@ task t =
     let ys = spell.objects t.objects in
     let zs = spell.fluents t.fluents in
     let last = spell.init t.init ++ (flat_map spell.schema t.schemas ++ (fixed the.Goal ∷ (spell.formula t.goal ++ fixed the.Semicolon ∷ []))) in
-    behind us (fixed the.Task ∷ named t.name ∷ fixed the.Semicolon ∷ []) (xs ++ (ys ++ (zs ++ last)))
+    behind us (fixed the.Task ∷ named t.name ∷ fixed the.Semicolon ∷ []) (spell.frames t.s5 ++ (xs ++ (ys ++ (zs ++ last))))
+    (behind us (spell.frames t.s5) (xs ++ (ys ++ (zs ++ last)))
     (subst (Follows us) (append_assoc xs (ys ++ zs) last ∙ ap (λ z. xs ++ z) (append_assoc ys zs last))
-    (joined (tasks.declaration_uses tasks.start t) (tasks.rest_uses d t) (xs ++ (ys ++ zs)) last (declared_by tasks.start t) (rest_of d t)))
+    (joined (tasks.declaration_uses tasks.start t) (tasks.rest_uses d t) (xs ++ (ys ++ zs)) last (declared_by tasks.start t) (rest_of d t))))

@@ -2,6 +2,7 @@
 
 ghost use Rattle.std.specs.Prelude.{◌≡◌, ◌<◌, ◌↔◌, length, position, slice_get, Some, IsTrue, IfOk, IfErr};
 ghost use Rattle.ep_base.specs.Refusals.{Reports};
+ghost use Rattle.ep_tree.specs.Grammar.{IsRead};
 ghost use Rattle.ep_types.specs.Faults.{IsJudged, first_error};
 ghost use Rattle.ep_types.specs.Names.{is_below, is_text, names_of, values_of, Reaches};
 ghost use Rattle.ep_types.specs.Places.{closed};
@@ -16,7 +17,7 @@ use ep_tree::{FormulaTree, TaskTree};
 use std::alloc::Global;
 use std::marker::Model;
 
-/// A task with no fault, which contracts see as its tree.
+/// A task with no fault, whose tree reads some tokens. Contracts see it as its tree.
 pub struct Typed {
     tree: TaskTree,
     names: Declared,
@@ -40,17 +41,19 @@ impl Model for Typed {
     ghost coded = { trees.the_row.coded };
 
     ghost use Rattle.std.specs.Prelude.{◌≡◌};
+    ghost use Rattle.ep_tree.specs.Grammar.{IsRead};
     ghost use Rattle.ep_types.specs.Tasks.{HasNoFault, declarations};
 
     ghost view = { λ t. t.tree };
 
-    ghost invariant = { λ t. (t.names ≡ declarations t.tree) × HasNoFault t.tree };
+    ghost invariant = { λ t. (t.names ≡ declarations t.tree) × HasNoFault t.tree × IsRead t.tree };
 }
 
 impl Typed {
     /// What is known of every typed task. It does nothing: a proof calls it where the code asks nothing of the task.
     pub fn known(&self)
-        ensures { HasNoFault self.now }
+        ensures typed { HasNoFault self.now }
+        ensures read { IsRead self.now }
     {
         let _tree = &self.tree;
     }
@@ -59,6 +62,7 @@ impl Typed {
     pub fn tree(&self) -> &TaskTree
         ensures tree { result.now ≡ self.now }
         ensures typed { HasNoFault self.now }
+        ensures read { IsRead self.now }
     {
         &self.tree
     }
@@ -117,8 +121,9 @@ impl Typed {
     }
 }
 
-/// Checks a task: the answer is its tree with a look-up of its names, or its first fault in file order.
+/// Checks a task that is read: the answer is its tree with a look-up of its names, or its first fault in file order.
 pub fn check(alloc: Global, tree: TaskTree) -> Result<Typed, TypeError>
+    requires { IsRead tree }
     ensures tree { IfOk result (λ typed. typed ≡ tree) }
     ensures typed { IfOk result (λ _. HasNoFault tree) }
     ensures fault { IfErr result (Reports TypeError.OutOfMemory (first_error (task_uses tree))) }

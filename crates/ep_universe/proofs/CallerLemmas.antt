@@ -9,7 +9,7 @@ pub use Rattle.ep_universe.proofs.LawLemmas.{atoms_stand, build, formulas_fit, n
 pub use Rattle.ep_universe.proofs.LinkLemmas.{has_is_member, map_more, more_mapped, new_name}
 pub use Rattle.ep_universe.proofs.MadeLemmas.{few_made, few_of_agent, from_made, no_position, pairs_below, place_below, to_made}
 pub use Rattle.ep_universe.proofs.NameLemmas.{AreBelow, apart-numbers, bindings-below, flat_more, objects-declared, params-are, params-below}
-pub use Rattle.ep_universe.proofs.ReadLemmas.{braced, few_fluents, is_read, many}
+pub use Rattle.ep_universe.proofs.ReadLemmas.{braced, few_fluents, many}
 pub use Rattle.ep_universe.proofs.SizeLemmas.{group_some}
 pub use Rattle.ep_universe.proofs.TaskLemmas.{formulas_long, goal_fine, goal_shallow, init_fine, init_long, init_shallow, schemas_fine, schemas_long, schemas_shallow}
 pub use Rattle.ep_universe.proofs.TreeLemmas.{ground-roll}

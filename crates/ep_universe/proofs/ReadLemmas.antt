@@ -1,11 +1,9 @@
--- Trees that read the tokens of a text, and how many fluents they have.
-use Rattle.std.proofs.Common.{◌≡◌, ℕ, ◌+◌, ◌≤◌, List, [], ◌∷◌, ◌++◌, length, map, sym, subst, arith}
+-- How many fluents a tree has that is read.
+use Rattle.std.proofs.Common.{◌≡◌, ℕ, ◌+◌, ◌≤◌, List, [], ◌∷◌, ◌++◌, length, map, arith}
 use Rattle.std.specs.List.{flat_map}
 use Rattle.std.proofs.lemmas.List.{length-append, length-map}
 use Rattle.ep_lex.specs.declared.limits.TheConstants.{MOST_TOKENS}
-use Rattle.ep_lex.specs.Tokens.{spelling, spellings}
-use Rattle.ep_lex.specs.declared.token.Token.{Token}
-use Rattle.ep_tree.specs.Grammar.{IsRead, Reads, tasks}
+use Rattle.ep_tree.specs.Grammar.{IsRead}
 use Rattle.ep_tree.specs.Marks.{Mark, fixed}
 use Rattle.ep_tree.specs.Spelling as spell
 use Rattle.ep_tree.specs.declared.terminal.Terminal.TheVariants as the
@@ -31,15 +29,8 @@ few_fluents t h =
     let behind = spell.init t.init ++ (flat_map spell.schema t.schemas ++ (fixed the.Goal ∷ (spell.formula t.goal ++ fixed the.Semicolon ∷ []))) in
     let mine = long-left (spell.fluents t.fluents) behind MOST_TOKENS
     (long-right (spell.objects t.objects) (spell.fluents t.fluents ++ behind) MOST_TOKENS
-    (long-right (spell.types t.types) (spell.objects t.objects ++ (spell.fluents t.fluents ++ behind)) MOST_TOKENS (omega arith))) in
+    (long-right (spell.types t.types) (spell.objects t.objects ++ (spell.fluents t.fluents ++ behind)) MOST_TOKENS
+    (long-right (spell.frames t.s5) (spell.types t.types ++ (spell.objects t.objects ++ (spell.fluents t.fluents ++ behind))) MOST_TOKENS (omega arith)))) in
     let each = many spell.fluent_entry (λ f. omega arith) t.fluents in
     let long = braced (flat_map spell.fluent_entry t.fluents) in
     omega (arith, mine, each, long)
-
--- a tree that reads the tokens of a text
-pub is_read : (bytes : List ℕ) (tokens : List Token) (t : TaskTree) → length tokens ≤ MOST_TOKENS → Reads tasks (spellings bytes tokens) t → IsRead t
-is_read bytes tokens t few reads = record {
-  formed = reads.formed;
-  shallow = reads.shallow;
-  few = subst (λ (ts : List (List ℕ)). length ts ≤ MOST_TOKENS) (sym reads.spelled) (omega (arith, length-map tokens (spelling bytes)));
-}

@@ -50,7 +50,8 @@ module _ (t : TaskTree) (read : IsRead t) where
   shallow_from_init =
       shallow-right (spell.fluents t.fluents) (spell.init t.init ++ behind)
       (shallow-right (spell.objects t.objects) (spell.fluents t.fluents ++ (spell.init t.init ++ behind))
-      (shallow-right (spell.types t.types) (spell.objects t.objects ++ (spell.fluents t.fluents ++ (spell.init t.init ++ behind))) read.shallow.1.1.1))
+      (shallow-right (spell.types t.types) (spell.objects t.objects ++ (spell.fluents t.fluents ++ (spell.init t.init ++ behind)))
+      (shallow-right (spell.frames t.s5) (spell.types t.types ++ (spell.objects t.objects ++ (spell.fluents t.fluents ++ (spell.init t.init ++ behind)))) read.shallow.1.1.1)))
 
   long_from_init : length (spell.init t.init ++ behind) ≤ MOST_TOKENS
   long_from_init =
@@ -58,7 +59,8 @@ module _ (t : TaskTree) (read : IsRead t) where
       let few = read.few in
       long-right (spell.fluents t.fluents) (spell.init t.init ++ behind) MOST_TOKENS
       (long-right (spell.objects t.objects) (spell.fluents t.fluents ++ (spell.init t.init ++ behind)) MOST_TOKENS
-      (long-right (spell.types t.types) (spell.objects t.objects ++ (spell.fluents t.fluents ++ (spell.init t.init ++ behind))) MOST_TOKENS (omega arith)))
+      (long-right (spell.types t.types) (spell.objects t.objects ++ (spell.fluents t.fluents ++ (spell.init t.init ++ behind))) MOST_TOKENS
+      (long-right (spell.frames t.s5) (spell.types t.types ++ (spell.objects t.objects ++ (spell.fluents t.fluents ++ (spell.init t.init ++ behind)))) MOST_TOKENS (omega arith))))
 
   pub init_shallow : IsShallow (spell.init_items t.init)
   init_shallow = shallow-left (spell.init_items t.init) (fixed the.CloseBrace ∷ []) (shallow-left (spell.init t.init) behind shallow_from_init).1.1

@@ -98,10 +98,10 @@ fn items_within(alloc: Global, typed: &Typed) -> Result<Items, UniverseError>
 
 /// The items of a task, or the first of its limits that is broken.
 pub(crate) fn items_of(alloc: Global, typed: &Typed) -> Result<Items, UniverseError>
-    requires { IsRead typed.now }
     ensures items { IfOk result (λ items. AreItems (declarations typed.now) items.agents items.atoms items.names) }
     ensures few { IfOk result (λ _. HasFewNames (declarations typed.now)) }
     ensures typed { HasNoFault typed.now }
+    ensures read { IsRead typed.now }
     ensures judged { IsJudged UniverseError.OutOfMemory (universe_fault (declarations typed.now)) result }
 {
     typed.known();

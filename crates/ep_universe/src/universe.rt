@@ -1,12 +1,12 @@
 //! What the names of a typed task stand for.
 
+ghost use Rattle.ep_tree.specs.Grammar.{IsRead};
 ghost use Rattle.std.specs.Prelude.{◌≡◌, ◌<◌, ◌≤◌, ◌==◌, false, true, drop, IfErr, IfOk, IfSome, IsTrue, None, OnOk, length, map, position};
 ghost use Rattle.ep_base.specs.Refusals.{Reports};
 ghost use Rattle.ep_binding.specs.Laminar.{IsLaminar};
 ghost use Rattle.ep_logic.specs.declared.limits.TheConstants.{MOST_AGENTS, MOST_ATOMS};
 ghost use Rattle.ep_logic.specs.AgentSets.{is_nobody};
 ghost use Rattle.ep_logic.specs.Numbers.{has_number};
-ghost use Rattle.ep_tree.specs.Grammar.{IsRead};
 ghost use Rattle.ep_types.specs.Names.{names_of};
 ghost use Rattle.ep_types.specs.Tasks.{HasNoFault, declarations};
 ghost use Rattle.ep_universe.specs.Atoms.{atom_at, atoms_of};
@@ -77,7 +77,6 @@ fn discard(_typed: Typed) {}
 impl Universe {
     /// The universe of a task, or the first limit that it breaks.
     pub fn new(alloc: Global, typed: Typed) -> Result<Universe, UniverseError>
-        requires { IsRead typed }
         ensures task { IfOk result (λ universe. universe ≡ named typed) }
         ensures allowed { OnOk result (universe_fault (declarations typed) ≡ None) }
         ensures refused { IfErr result (Reports UniverseError.OutOfMemory (universe_fault (declarations typed))) }

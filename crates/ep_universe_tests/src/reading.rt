@@ -20,7 +20,7 @@ fn tokens_of(rt: &impl Abort, alloc: Global, bytes: &[u8]) -> Result<TokenList, 
     tokens(alloc, bytes)
 }
 
-#[tactic(auto, using(ep_universe::proofs::ReadLemmas::is_read))]
+#[tactic(auto, using(ep_tree::proofs::ReadLemmas::is_read))]
 fn task_tree(rt: &impl Abort, alloc: Global, text: &str) -> Result<TaskTree, Fail>
     ensures { IfOk result IsRead }
 {

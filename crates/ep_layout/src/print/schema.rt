@@ -116,6 +116,18 @@ fn print_signature(
     Ok(())
 }
 
+fn print_cost(cost: Option<u32>, printer: &mut Printer) -> Result<(), OutOfMemory>
+    ensures { OnOk result (printer.new ≡ written printer.old (spell.cost cost)) }
+{
+    match cost {
+        Some(cost) => {
+            printer.write_terminal(Terminal::Cost)?;
+            printer.write_count(cost)
+        }
+        None => Ok(()),
+    }
+}
+
 impl Print for SchemaTree {
     ghost use Rattle.ep_tree.specs.Spelling.{schema};
 
@@ -126,6 +138,7 @@ impl Print for SchemaTree {
         printer.write_terminal(Terminal::Action)?;
         printer.write_name(&self.name)?;
         print_signature(self.params.as_slice(), self.distinct, printer)?;
+        print_cost(self.cost, printer)?;
         printer.write_terminal(Terminal::OpenBrace)?;
         self.body.print(printer)?;
         printer.write_terminal(Terminal::CloseBrace)

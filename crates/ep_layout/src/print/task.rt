@@ -56,6 +56,17 @@ impl Print for FluentTree {
     }
 }
 
+fn print_frames(s5: bool, printer: &mut Printer) -> Result<(), OutOfMemory>
+    ensures { OnOk result (printer.new ≡ written printer.old (spell.frames s5)) }
+{
+    if s5 {
+        printer.write_terminal(Terminal::Frames)?;
+        printer.write_terminal(Terminal::S5)?;
+        printer.write_terminal(Terminal::Semicolon)?;
+    }
+    Ok(())
+}
+
 fn print_types(types: &Option<List<TypeTree>>, printer: &mut Printer) -> Result<(), OutOfMemory>
     ensures { OnOk result (printer.new ≡ written printer.old (spell.types types.now)) }
 {
@@ -72,11 +83,12 @@ fn print_types(types: &Option<List<TypeTree>>, printer: &mut Printer) -> Result<
 #[tactic(auto, using(crate::proofs::PrintedLemmas::printed))]
 fn print_head(tree: &TaskTree, printer: &mut Printer) -> Result<(), OutOfMemory>
     ensures { OnOk result (printer.new ≡ written printer.old (fixed the.Task ∷ named tree.now.name ∷ fixed the.Semicolon ∷
-        (spell.types tree.now.types ++ (spell.objects tree.now.objects ++ spell.fluents tree.now.fluents)))) }
+        (spell.frames tree.now.s5 ++ (spell.types tree.now.types ++ (spell.objects tree.now.objects ++ spell.fluents tree.now.fluents))))) }
 {
     printer.write_terminal(Terminal::Task)?;
     printer.write_name(&tree.name)?;
     printer.write_terminal(Terminal::Semicolon)?;
+    print_frames(tree.s5, printer)?;
     print_types(&tree.types, printer)?;
     printer.write_terminal(Terminal::Objects)?;
     print_block(tree.objects.as_slice(), printer)?;

@@ -1,4 +1,4 @@
-use Rattle.std.proofs.Common.{◌≡◌, refl, ap, sym, ◌∙◌}
+use Rattle.std.proofs.Common.{refl, ap, sym, ◌∙◌}
 use Rattle.ep_base.specs.Refusals.{first_some}
 use Rattle.ep_types.specs.Tasks.{declarations}
 use Rattle.ep_universe.specs.Universe.{NamedTask, universe_fault}

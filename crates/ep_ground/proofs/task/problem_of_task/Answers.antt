@@ -1,4 +1,4 @@
-use Rattle.std.proofs.Common.{◌≡◌, [], ◌∷◌, None, List, All, option_map, refl, sym, subst, ap, ◌∙◌, rules}
+use Rattle.std.proofs.Common.{◌≡◌, [], ◌∷◌, List, All, option_map, refl, sym, subst, ap, ◌∙◌, rules}
 use Rattle.std.specs.List.{AllByRecursion}
 use Rattle.ep_base.specs.Refusals.{first_some}
 use Rattle.ep_theory.specs.Kripke.{Kripke}
@@ -11,7 +11,7 @@ use Rattle.ep_schema.specs.Actions.{actions_of}
 use Rattle.ep_schema.specs.Bodies.{IsBuildableSchema}
 use Rattle.ep_schema.specs.Faults.{atom_twice}
 use Rattle.ep_schema.specs.declared.fault.SchemaError.TheVariants as schema
-use Rattle.ep_ground.specs.Grounding.{behind_limits, of_initial, of_schema, problem_from}
+use Rattle.ep_ground.specs.Grounding.{part_rows, of_initial, of_schema, problem_from}
 use Rattle.ep_ground.proofs.TaskLemmas.{first_mapped, handed_on, initial_agents, initial_atoms, none_mapped}
 use Rattle.ep_ground.proofs.FitLemmas.{all_fit}
 use Rattle.ep_ground.proofs.task.problem_of_task.Goals as goal
@@ -55,7 +55,7 @@ returns-in_err-actions-clause-err c =
     let twice = λ (ss : List SchemaTree). atom_twice (action_names d ss) (actions_of d ss) in
     let e = c.in_err-actions.field-0.0 in
     let rest = option_map of_initial (init_fault d t.init) ∷ [] in
-    handed_on of_schema schema.OutOfMemory c.from_residual.result e (twice c.as_slice.result.now) (first_some (behind_limits d t)) refl c.from_residual.ensures.1 c.in_err-actions.ensures.err
+    handed_on of_schema schema.OutOfMemory c.from_residual.result e (twice c.as_slice.result.now) (first_some (part_rows d t)) refl c.from_residual.ensures.1 c.in_err-actions.ensures.err
     (λ some. first_mapped of_schema (twice t.schemas) rest e (ap twice (sym same) ∙ some))
 
 pub returns-in_err-initial-clause-err : goal.returns-in_err-initial-clause-err
@@ -66,7 +66,7 @@ returns-in_err-initial-clause-err c =
     let twice = λ (ss : List SchemaTree). atom_twice (action_names d ss) (actions_of d ss) in
     let e = c.in_err-initial.field-0.0 in
     let rest = option_map of_initial (init_fault d t.init) ∷ [] in
-    handed_on of_initial initial.OutOfMemory c.from_residual-in_err-initial.result e (init_fault d t.init) (first_some (behind_limits d t)) refl c.from_residual-in_err-initial.ensures.1 c.in_err-initial.ensures.err
+    handed_on of_initial initial.OutOfMemory c.from_residual-in_err-initial.result e (init_fault d t.init) (first_some (part_rows d t)) refl c.from_residual-in_err-initial.ensures.1 c.in_err-initial.ensures.err
     (λ some. none_mapped of_schema (twice t.schemas) rest (ap twice (sym same) ∙ c.in_ok-actions.ensures.once) ∙ first_mapped of_initial (init_fault d t.init) [] e some)
 
 pub returns-clause-sound : goal.returns-clause-sound

@@ -1,6 +1,8 @@
 use Rattle.std.proofs.Common.{◌≡◌, ◌+◌, length, arith, refl, sym, ap, ◌∙◌, subst, unwrap_or}
 use Rattle.ep_theory.specs.Kripke.{Kripke}
+use Rattle.ep_plan.specs.declared.runs.Outcome.TheVariants.{After}
 use Rattle.ep_plan.proofs.Made.{HasMade, left_agents, left_atoms, run_through, one_more_made, refused_stop, listed_by, ok_change}
+use Rattle.ep_plan.proofs.TruthfulRuns.{truthful_run}
 use Rattle.ep_plan.proofs.runs.run_plan.Goals as goal
 
 pub next-requires-clause-agents : goal.next-requires-clause-agents
@@ -48,3 +50,22 @@ returns-in_ok-copy-in-None-clause-run g c =
     run_through T c.initial.ensures.valid c.args.plan.now c.args.size c.loop-before.before S
     (subst (HasMade T c.args.plan.now c.args.size c.loop-before.before) is c.loop-before.invariant.run)
     (omega (arith, ap length c.as_slice-place-items.ensures))
+
+pub returns-in-Err-clause-truthful : goal.returns-in-Err-clause-truthful
+returns-in-Err-clause-truthful g c = λ e.
+    ok_change c.stopped.result (λ o run. truthful_run c.args.problem.now c.known.ensures.valid c.args.plan.now c.args.size o run e)
+    (returns-in-Err-clause-run g c)
+
+pub returns-in_ok-copy-in-None-clause-truthful : goal.returns-in_ok-copy-in-None-clause-truthful
+returns-in_ok-copy-in-None-clause-truthful g c = λ e.
+    truthful_run c.args.problem.now c.known.ensures.valid c.args.plan.now c.args.size (After c.in_ok-copy-in-None.field-0)
+    (returns-in_ok-copy-in-None-clause-run g c) e
+
+pub returns-in-Some-clause-truthful : goal.returns-in-Some-clause-truthful
+returns-in-Some-clause-truthful g c = λ e.
+    let T = c.args.problem.now in
+    let n = c.loop-before.before in
+    truthful_run T c.known.ensures.valid c.args.plan.now c.args.size (After c.in-Some.state)
+    (run_through T c.known.ensures.valid c.args.plan.now c.args.size n c.in-Some.state
+    (subst (HasMade T c.args.plan.now c.args.size n) (ap (λ m. unwrap_or m T.initial) c.in-Some.is) c.loop-before.invariant.run)
+    (omega (arith, ap length c.as_slice-place-items.ensures))) e

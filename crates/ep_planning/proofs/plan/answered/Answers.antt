@@ -15,7 +15,7 @@ planned-requires g c =
     let b = c.args.bounds in
     let found = c.in_ok-found.found in
     let allowed = subst (λ (T : PlanningTask). Allowed T b.depth b.states b.worlds c.args.mode found) c.problem.ensures.value c.in_ok-found.ensures.allowed in
-    allowed_has_actions t b.depth b.states b.worlds c.args.mode found c.known.ensures.actions allowed
+    allowed_has_actions t b.depth b.states b.worlds c.args.mode found c.requires.depth c.known.ensures.actions allowed
 
 pub returns-clause-plans : goal.returns-clause-plans
 returns-clause-plans g c =

@@ -1,5 +1,5 @@
 -- The trial, from the contraction and the answer.
-use Rattle.std.proofs.Common.{refl, subst, ◌∙◌, ap}
+use Rattle.std.proofs.Common.{refl, subst, ◌∙◌, ap, arith}
 use Rattle.ep_theory.specs.PlanningTask.{PlanningTask}
 use Rattle.ep_search.specs.Allowed.{Allowed}
 use Rattle.ep_bounds.specs.declared.bounds.Mode.TheVariants as mode
@@ -14,7 +14,7 @@ end-requires g c =
     record {
       depth = c.requires;
       allowed = allowed;
-      actions = allowed_has_actions c.args.task.now c.args.children 1000 256 mode.Prove found c.known.ensures.actions allowed;
+      actions = allowed_has_actions c.args.task.now c.args.children 1000 256 mode.Prove found (omega (arith, c.requires)) c.known.ensures.actions allowed;
     }
 
 pub returns : goal.returns

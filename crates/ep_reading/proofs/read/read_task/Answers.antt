@@ -1,12 +1,10 @@
 -- Where the reading of a task ends.
 use Rattle.std.proofs.lemmas.Result.{err_from_is_err_and, MatchResult-weaker}
-use Rattle.ep_reading.proofs.Steps.{stops_at_text, stops_at_types, stops_at_ground, tree_of, tree_is_read}
+use Rattle.ep_reading.proofs.Steps.{stops_at_text, stops_at_types, stops_at_ground, tree_of, text_is_read}
 use Rattle.ep_reading.proofs.read.read_task.Goals as goal
 
-pub ground_task-requires : goal.ground_task-requires
-ground_task-requires c =
-    let text = c.in_ok-text.text in
-    tree_is_read c.args.bytes.now text.tokens c.in_ok-typed.typed (tree_of c.args.bytes.now text.tokens text.tree c.in_ok-typed.typed c.in_ok-text.ensures c.in_ok-typed.ensures)
+pub typed_task-requires : goal.typed_task-requires
+typed_task-requires c = let text = c.in_ok-text.text in text_is_read c.args.bytes.now text.tokens text.tree c.in_ok-text.ensures
 
 pub returns-in_err-text : goal.returns-in_err-text
 returns-in_err-text c =

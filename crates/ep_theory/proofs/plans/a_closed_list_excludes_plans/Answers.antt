@@ -2,4 +2,4 @@ use Rattle.ep_theory.proofs.runs.ClosedLemmas.{no_plan}
 use Rattle.ep_theory.proofs.plans.a_closed_list_excludes_plans.Goals as goal
 
 pub returns : goal.returns
-returns c = λ T cost bound entries t closed. no_plan T cost t bound entries closed
+returns c = λ T bound entries t closed. no_plan T t bound entries closed

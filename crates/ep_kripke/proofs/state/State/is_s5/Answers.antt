@@ -1,21 +1,16 @@
 use Rattle.std.proofs.Common.{◌≡◌, ◌<◌, IsTrue, length, refl, sym, subst, arith, inl, inr}
 use Rattle.std.proofs.lemmas.Bool.{cases_eq}
-use Rattle.ep_theory.specs.Kripke.{Kripke, links_of}
+use Rattle.ep_theory.specs.Kripke.{links_of}
 use Rattle.ep_theory.specs.Equivalences.{IsEquivalence}
-use Rattle.ep_theory.specs.Relations.{all_pairs}
-use Rattle.ep_kripke.proofs.EquivalenceLemmas.{relation_fits, all_equivalences, one_equivalence}
+use Rattle.ep_kripke.proofs.EquivalenceLemmas.{all_equivalences, one_equivalence}
 use Rattle.ep_kripke.proofs.state.State.is_s5.Goals as goal
-
-pub is_equivalence-requires-clause-rows : goal.is_equivalence-requires-clause-rows
-is_equivalence-requires-clause-rows c = relation_fits c.args.self.now c.relation.ensures.valid c.loop-a.a c.relation.result.now c.relation.ensures.rows c.relation.ensures.each
 
 pub loop-a-preserved : goal.loop-a-preserved
 loop-a-preserved c = λ k h.
     let s = c.args.self.now in
     let t : IsTrue c.is_equivalence.result = cc (c.if-not-is_equivalence.false) in
     elim (cases_eq k c.loop-a.a) [
-      | inl e ↦ subst (λ a. IsEquivalence s.worlds (links_of s a)) (sym e)
-          (subst (λ n. IsEquivalence n (links_of s c.loop-a.a)) c.relation.ensures.rows (subst (IsEquivalence (length c.relation.result.now)) c.relation.ensures.pairs (c.is_equivalence.ensures.0 t)))
+      | inl e ↦ subst (λ a. IsEquivalence s.worlds (links_of s a)) (sym e) (c.is_equivalence.ensures.value.0 t)
       | inr ne ↦ c.loop-a.invariant k (omega (arith, h, ne))
     ]
 

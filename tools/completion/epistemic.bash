@@ -21,8 +21,8 @@ _epistemic() {
         case $before in
         --guide) COMPREPLY=($(compgen -W "depth unmet worlds" -- "$word")) ;;
         --first) COMPREPLY=($(compgen -W "yes" -- "$word")) ;;
-        --depth | --states | --worlds) ;;
-        *) COMPREPLY=($(compgen -W "--depth --states --worlds --guide --first" -- "$word")) ;;
+        --depth | --cost | --states | --worlds) ;;
+        *) COMPREPLY=($(compgen -W "--depth --cost --states --worlds --guide --first" -- "$word")) ;;
         esac
     elif [ "$command" != check ]; then
         COMPREPLY=($(compgen -W "-" -- "$word") $(compgen -f -X '!*.plan' -- "$word") $(compgen -d -S / -- "$word"))

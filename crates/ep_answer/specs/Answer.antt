@@ -23,6 +23,8 @@ use Rattle.ep_answer.specs.declared.cause.Subject.TheVariants.{Task, Plan, First
 use Rattle.ep_answer.specs.declared.status.Status.{Status}
 use Rattle.ep_answer.specs.declared.status.Status.TheVariants as status
 use Rattle.ep_base.specs.Texts.{line}
+use Rattle.ep_bounds.specs.declared.bounds.Measure.{Measure}
+use Rattle.ep_bounds.specs.declared.bounds.Measure.TheVariants.{Length, Cost}
 use Rattle.ep_types.specs.FaultTexts.{fault_text}
 
 -- ---- refusals
@@ -73,15 +75,19 @@ counts_text counts =
 
 -- ---- answers of the search
 
+abbrev pub none_text : Measure → ℕ → List ℕ
+none_text Length bound = line (codes "none to " ++ decimal bound)
+none_text Cost bound = line (codes "none to cost " ++ decimal bound)
+
 abbrev pub planned_text : Planned → List ℕ
 planned_text (planned.Plan text) = text
-planned_text (planned.NoneTo depth) = line (codes "none to " ++ decimal depth)
+planned_text (planned.NoneTo measure bound) = none_text measure bound
 planned_text planned.ManyStates = line (codes "undecided: states")
 planned_text (planned.WideAfter count actions) = line (codes "undecided: worlds after " ++ decimal count) ++ actions
 
 abbrev pub planned_status : Planned → Status
 planned_status (planned.Plan text) = status.Ok
-planned_status (planned.NoneTo depth) = status.No
+planned_status (planned.NoneTo measure bound) = status.No
 planned_status planned.ManyStates = status.Undecided
 planned_status (planned.WideAfter count actions) = status.Undecided
 

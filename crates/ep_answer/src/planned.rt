@@ -5,6 +5,7 @@ ghost use Rattle.ep_answer.specs.Answer.{planned_status, planned_text};
 use crate::Status;
 use crate::cause::Shown;
 use ep_base::Text;
+use ep_bounds::Measure;
 use std::fmt;
 
 /// An answer of the search, as it is told.
@@ -12,9 +13,9 @@ use std::fmt;
 pub enum Planned {
     /// The text of a plan.
     Plan(Text),
-    /// No plan has at most so many actions.
-    NoneTo { depth: u32 },
-    /// More states than may be stored lie within the depth.
+    /// No plan measures at most so much.
+    NoneTo { measure: Measure, bound: u32 },
+    /// More states than may be stored lie within the bound.
     ManyStates,
     /// So many actions, of which these are the lines, leave a state whose contraction has too many worlds.
     WideAfter { count: usize, actions: Text },
@@ -38,7 +39,10 @@ impl fmt::Display for Planned {
     fn fmt<W: fmt::Write>(&self, f: &mut fmt::Formatter<W>) -> fmt::Result {
         match self {
             Planned::Plan(text) => write!(f, "{}", Shown(text)),
-            Planned::NoneTo { depth } => write!(f, "none to {depth}\n"),
+            Planned::NoneTo { measure, bound } => match measure {
+                Measure::Length => write!(f, "none to {bound}\n"),
+                Measure::Cost => write!(f, "none to cost {bound}\n"),
+            },
             Planned::ManyStates => f.write_str("undecided: states\n"),
             Planned::WideAfter { count, actions } => write!(
                 f,

@@ -1,7 +1,7 @@
 // The bounds of a search, its mode, and what plans are measured by.
 
-/// The most actions that a plan may be bounded to.
-pub const MOST_ACTIONS: u32 = 1000;
+/// The greatest bound on what plans measure.
+pub const MOST_BOUND: u32 = 1000;
 
 /// The most states that a store may be bounded to.
 pub const MOST_STATES: u32 = 16_384;
@@ -22,16 +22,17 @@ pub enum Measure {
     Cost,
 }
 
-/// How far a search goes: `depth` is the most actions of a plan, `states` the most states that are stored, at least 1,
+/// How far a search goes: `bound` is the most that a plan measures, `states` the most states that are stored, at least 1,
 /// `worlds` the most worlds of a contracted state.
 #[derive(Clone, Copy)]
 pub struct Bounds {
-    pub depth: u32,
+    pub measure: Measure,
+    pub bound: u32,
     pub states: u32,
     pub worlds: u32,
 }
 
-/// Whether a search goes on from the first plan that it meets until that is proved shortest.
+/// Whether a search goes on from the first plan that it meets until none is proved to measure less.
 #[derive(Clone, Copy)]
 pub enum Mode {
     Prove,

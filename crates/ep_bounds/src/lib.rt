@@ -4,5 +4,5 @@
 mod bounds;
 
 pub use bounds::{
-    Bounds, MOST_ACTIONS, MOST_COST, MOST_PLAN_ACTIONS, MOST_STATES, MOST_WORLDS, Measure, Mode,
+    Bounds, MOST_BOUND, MOST_COST, MOST_PLAN_ACTIONS, MOST_STATES, MOST_WORLDS, Measure, Mode,
 };

@@ -1,7 +1,3 @@
 pub mod QuotientLemmas
-pub mod RowBytesLemmas
-pub mod BytesLemmas
-pub mod WritingLemmas
-pub mod ToldLemmas
-pub mod ReadingLemmas
-pub mod CallerLemmas
+pub mod MapLemmas
+pub mod CanonLemmas

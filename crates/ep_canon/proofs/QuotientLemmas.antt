@@ -105,10 +105,11 @@ module _ (S : Kripke) (s : IsState S) (classes chosen : List ℕ) (count : ℕ) 
           read (x ∷ xs) zero c l e = e
           read (x ∷ xs) (suc i) c l e = read xs i c (omega arith) e
 
+  pub quotient_image : (Q : Kripke) → IsImage S (value_at row) (slice_index classes) Q → IsImage S (λ _. true) (slice_index classes) Q
+  quotient_image Q m = image_as S Q s (value_at row) (λ _. true) (slice_index classes) (slice_index classes) keeps (λ w b. refl) m
+
   pub quotient_contracts : (Q : Kripke) → IsState Q → ((w : ℕ) → w < S.worlds → Reached S w) → IsImage S (value_at row) (slice_index classes) Q → Contracts S Q
-  quotient_contracts Q q reached m =
-      contracts_from_ranks S Q (slice_index classes) s q reached ordered
-      (image_as S Q s (value_at row) (λ _. true) (slice_index classes) (slice_index classes) keeps (λ w b. refl) m)
+  quotient_contracts Q q reached m = contracts_from_ranks S Q (slice_index classes) s q reached ordered (quotient_image Q m)
 
 -- the reached part
 module _ (S P : Kripke) (s : IsState S) (p : IsState P) (row : List Bool) (reached : (w : ℕ) → w < S.worlds → IsTrue (value_at row w) → Reached S w)
@@ -126,7 +127,7 @@ module _ (S P : Kripke) (s : IsState S) (p : IsState P) (row : List Bool) (reach
 pub keeps_designated : (S : Kripke) → IsState S → (row : List Bool) → ((w : ℕ) → Reached S w → IsTrue (value_at row w)) → KeepsDesignated S row
 keeps_designated S s row unreached = let d = some_element S.designated s.some_designated in (d.0, d.1, unreached d.0 (start d.1))
 
-reached_within : (S : Kripke) → IsState S → (w : ℕ) → Reached S w → w < S.worlds
+pub reached_within : (S : Kripke) → IsState S → (w : ℕ) → Reached S w → w < S.worlds
 reached_within S s w (start i) = at_All (λ x. x < S.worlds) w S.designated s.designated_within i
 reached_within S s w (step a u r i) = (links_within S s a u w i).1
 
@@ -143,3 +144,7 @@ own_contraction S C s f h = (canonical_is_own_contraction S C s f).0 h
 pub both_ok : {X Y : Type 0} (r : Result X Y) (P Q R : X → Type 0) → ((x : X) → P x → Q x → R x) → IfOk r P → IfOk r Q → IfOk r R
 both_ok (Ok x) P Q R f p q = f x p q
 both_ok (Err e) P Q R f p q = tt
+
+pub mapped_ok : {X Y : Type 0} (r : Result X Y) (P Q : X → Type 0) → ((x : X) → P x → Q x) → IfOk r P → IfOk r Q
+mapped_ok (Ok x) P Q f p = f x p
+mapped_ok (Err e) P Q f p = tt

@@ -1,3 +1,3 @@
 pub mod Quotient
-pub mod Bytes
-pub mod Reading
+pub mod Contracting
+pub mod Canon

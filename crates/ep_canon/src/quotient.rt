@@ -4,6 +4,7 @@ ghost use Rattle.std.specs.Prelude.{◌≡◌, ℕ, ◌<◌, ◌≤◌, length, 
 ghost use Rattle.ep_kripke.specs.declared.limits.TheConstants.{MOST_WORLDS};
 ghost use Rattle.ep_theory.specs.Kripke.{IsState};
 ghost use Rattle.ep_theory.specs.Canonical.{Reached, Contracts};
+ghost use Rattle.ep_theory.specs.Image.{IsImage};
 ghost use Rattle.ep_theory.specs.Ranks.{RanksAt};
 ghost use Rattle.ep_refine.specs.Numbering.{AreNumbers};
 ghost use Rattle.ep_canon.specs.Quotient.{StandFor};
@@ -19,6 +20,7 @@ pub fn quotient(alloc: Global, s: &State, classes: &ClassList) -> Result<State, 
     requires one_each { length classes.now ≡ s.now.worlds }
     requires ordered { RanksAt s.now s.now.worlds (slice_index classes.now) }
     ensures contraction { IfOk result (Contracts s.now) }
+    ensures image { IfOk result (IsImage s.now (λ _. true) (slice_index classes.now)) }
     ensures valid { IfOk result IsState }
     ensures fewer { IfOk result (λ q. q.worlds ≤ s.now.worlds) }
 {

@@ -14,10 +14,10 @@ use ep_base::OutOfMemory;
 use ep_ground::Task;
 use ep_io::Library;
 use ep_layout::print_task;
-use ep_reading::task_file;
+use ep_reading::read_task_file;
 use std::alloc::Global;
 
-fn counts(task: &Task) -> Counts
+fn count_task(task: &Task) -> Counts
     ensures { result ≡ counts_of task.now }
 {
     Counts {
@@ -29,12 +29,12 @@ fn counts(task: &Task) -> Counts
     }
 }
 
-fn checked(alloc: Global, task: &Task) -> Result<Answer, OutOfMemory>
+fn report_task(alloc: Global, task: &Task) -> Result<Answer, OutOfMemory>
     requires formed { IsFormedTask task.now.tree }
     requires shallow { IsShallow (spell.task task.now.tree) }
     ensures { IfOk result (λ answer. Checks task.now (answers answer)) }
 {
-    let counts = counts(task);
+    let counts = count_task(task);
     let layout = print_task(alloc, task.typed().tree())?;
     Ok(Answer::Checked { counts, layout })
 }
@@ -44,7 +44,7 @@ pub fn check_task<L: Library>(alloc: Global, files: &mut L, file: &str) -> Resul
     ensures goes_on { GoesOn (L.library files.old) (L.library files.new) }
     ensures answer { Serves (λ held. TaskFile held file.now Checks) (OnlyFile OfTask file.now) ⊥ (L.library files.old) (L.library files.new) result }
 {
-    let task = task_file(alloc, files, file)?;
-    let answer = checked(alloc, &task)?;
+    let task = read_task_file(alloc, files, file)?;
+    let answer = report_task(alloc, &task)?;
     Ok(answer)
 }

@@ -1,6 +1,8 @@
-// Canonical bytes, written, compared and read.
+// Bytes of states, canonical or not, written, compared and read.
 
+use crate::contractions::line;
 use crate::made::{ALL_OF_TWO, Given, contracted, state};
+use ep_bytes::{ReadError, read_state, write_state};
 use ep_canon::{Canon, CanonError, same};
 use ep_kripke::State;
 use ep_logic::{List, OutOfMemory};
@@ -247,5 +249,79 @@ fn bytes_cut_short_or_longer_are_refused(rt: HostRuntime) -> Result<(), Fail> {
         longer.push(0)?;
         assert!(rt; is_refused(rt.alloc(), &longer), "{longer:?}");
     }
+    Ok(())
+}
+
+// A lone world, and one that is not reached.
+const LONE_OF_TWO: Given<'static> = Given {
+    agents: 2,
+    atoms: 1,
+    worlds: &[&[0], &[]],
+    links: &[(0, 0, 0), (0, 1, 1), (1, 0, 0), (1, 1, 1)],
+    designated: &[0],
+};
+
+// States that are not canonical, and their bytes.
+const PLAIN: [(Given<'static>, &[u8]); 3] = [
+    (LONE_OF_TWO, &[0, 2, 2, 0, 1, 1, 0, 1, 2, 1, 2, 1]),
+    (COIN, &[0, 2, 2, 0, 1, 1, 0, 3, 3, 3, 3, 1]),
+    (
+        NINE,
+        &[
+            0, 9, 1, 0, 0, 2, 0, 4, 0, 8, 0, 16, 0, 32, 0, 64, 0, 128, 0, 0, 1, 0, 0, 1, 0,
+        ],
+    ),
+];
+
+fn plain_bytes(rt: &impl Abort, alloc: Global, s: &State) -> Result<List<u8>, OutOfMemory> {
+    assert!(rt; s.worlds() <= 4096);
+    write_state(alloc, s)
+}
+
+// What is read has these bytes again, and one world fewer is too few.
+fn check_plain(rt: &impl Abort, alloc: Global, bytes: &[u8], worlds: u32) -> Result<(), ReadError> {
+    assert!(rt; 0 < worlds && worlds <= 4096);
+    let s = read_state(alloc, bytes, worlds)?;
+    assert_eq!(rt; s.worlds(), worlds);
+    let again = plain_bytes(rt, alloc, &s)?;
+    assert_eq!(rt; again.as_slice(), bytes);
+    let fewer = read_state(alloc, bytes, worlds - 1);
+    assert!(rt; fewer.err() == Some(ReadError::NoState));
+    Ok(())
+}
+
+#[test]
+fn bytes_of_states_that_are_not_canonical(rt: HostRuntime) -> Result<(), Fail> {
+    for (given, wanted) in PLAIN {
+        let s = state(&rt, rt.alloc(), &given)?;
+        let bytes = plain_bytes(&rt, rt.alloc(), &s)?;
+        assert_eq!(rt; bytes.as_slice(), wanted);
+        check_plain(&rt, rt.alloc(), wanted, s.worlds())?;
+    }
+    Ok(())
+}
+
+// The bytes of a line of 70 worlds with one atom, whose first agent links each world to the next: one bit a link, one
+// for the designated world, and three bytes of the numbers that are not 0.
+fn check_line_of_70(rt: &impl Abort, bytes: &[u8]) {
+    assert_eq!(rt; bytes.len(), 1344);
+    assert_eq!(rt; &bytes[..5], [0, 70, 2, 0, 1].as_slice());
+    for w in 1..70usize {
+        assert_eq!(rt;
+            bytes[75 + 9 * (w - 1) + w / 8],
+            1u8 << (w % 8),
+            "world {w}"
+        );
+    }
+    assert_eq!(rt; bytes[1335], 1);
+    assert_eq!(rt; bytes.iter().filter(|byte| **byte != 0).count(), 73);
+}
+
+#[test]
+fn bytes_of_rows_longer_than_a_word(rt: HostRuntime) -> Result<(), Fail> {
+    let s = line(&rt, rt.alloc(), 70, false)?;
+    let bytes = plain_bytes(&rt, rt.alloc(), &s)?;
+    check_line_of_70(&rt, bytes.as_slice());
+    check_plain(&rt, rt.alloc(), bytes.as_slice(), 70)?;
     Ok(())
 }

@@ -1,6 +1,7 @@
 // Contractions of states.
 
 use crate::made::{ALL_OF_TWO, Given, Triple, contracted, state};
+use ep_canon::{Mapped, contract_map};
 use ep_kripke::State;
 use ep_logic::{AgentId, AtomId, OutOfMemory, WorldId};
 use std::alloc::Global;
@@ -70,11 +71,11 @@ const ALL_OF_FOUR: [Triple; 32] = [
     (1, 3, 3),
 ];
 
-// A state and its contraction.
-type Case = (Given<'static>, Given<'static>);
+// A state, its contraction, and for each world the world of the contraction that it goes to.
+type Case = (Given<'static>, Given<'static>, &'static [Option<u32>]);
 
 const CASES: [Case; 6] = [
-    // A world that is not reached.
+    // A lone world, and one that is not reached.
     (
         Given {
             agents: 2,
@@ -90,8 +91,9 @@ const CASES: [Case; 6] = [
             links: &[(0, 0, 0), (1, 0, 0)],
             designated: &[0],
         },
+        &[Some(0), None],
     ),
-    // Two worlds of each kind, and both of one kind designated.
+    // Each world of the coin twice: two worlds of each kind, and both of one kind designated.
     (
         Given {
             agents: 2,
@@ -107,6 +109,7 @@ const CASES: [Case; 6] = [
             links: ALL_OF_TWO,
             designated: &[1],
         },
+        &[Some(1), Some(1), Some(0), Some(0)],
     ),
     // The end of a chain comes first.
     (
@@ -124,6 +127,7 @@ const CASES: [Case; 6] = [
             links: &[(0, 1, 0), (0, 2, 1)],
             designated: &[2],
         },
+        &[Some(2), Some(1), Some(0)],
     ),
     (
         Given {
@@ -140,6 +144,7 @@ const CASES: [Case; 6] = [
             links: &[(0, 1, 0), (0, 2, 1), (0, 3, 2)],
             designated: &[3],
         },
+        &[Some(3), Some(2), Some(1), Some(0)],
     ),
     // Two ways that are one, found in two rounds.
     (
@@ -157,6 +162,7 @@ const CASES: [Case; 6] = [
             links: &[(0, 2, 1), (1, 1, 0)],
             designated: &[2],
         },
+        &[Some(2), Some(1), Some(0), Some(1), Some(0)],
     ),
     // A world without successors beside one with.
     (
@@ -174,8 +180,36 @@ const CASES: [Case; 6] = [
             links: &[(0, 1, 0), (0, 1, 2), (0, 2, 2)],
             designated: &[1],
         },
+        &[Some(1), Some(0), Some(2)],
     ),
 ];
+
+fn mapped(rt: &impl Abort, alloc: Global, s: &State) -> Result<Mapped, OutOfMemory> {
+    assert!(rt; s.worlds() <= 4096);
+    contract_map(alloc, s)
+}
+
+fn check_map(
+    rt: &impl Abort,
+    alloc: Global,
+    s: &State,
+    wanted: &Given<'_>,
+    map: &[Option<u32>],
+) -> Result<(), OutOfMemory> {
+    let found = mapped(rt, alloc, s)?;
+    check_state(rt, found.canon.state(), wanted);
+    assert_eq!(rt; found.map.as_slice(), map);
+    Ok(())
+}
+
+#[test]
+fn worlds_go_to_their_classes(rt: HostRuntime) -> Result<(), Fail> {
+    for (given, wanted, map) in CASES {
+        let s = state(&rt, rt.alloc(), &given)?;
+        check_map(&rt, rt.alloc(), &s, &wanted, map)?;
+    }
+    Ok(())
+}
 
 // The contraction of a contraction is that contraction, and a copy is its original.
 fn check_contraction(
@@ -195,7 +229,7 @@ fn check_contraction(
 
 #[test]
 fn contractions_and_their_contractions(rt: HostRuntime) -> Result<(), Fail> {
-    for (given, wanted) in CASES {
+    for (given, wanted, _map) in CASES {
         let s = state(&rt, rt.alloc(), &given)?;
         check_contraction(&rt, rt.alloc(), &s, &wanted)?;
     }
@@ -203,7 +237,7 @@ fn contractions_and_their_contractions(rt: HostRuntime) -> Result<(), Fail> {
 }
 
 // Agent 0 links each world to the next, and the last to the first where the line is a ring.
-fn line(rt: &impl Abort, alloc: Global, count: u32, ring: bool) -> Result<State, Fail> {
+pub fn line(rt: &impl Abort, alloc: Global, count: u32, ring: bool) -> Result<State, Fail> {
     assert!(rt; count > 0);
     let none: &[u32] = &[];
     let worlds = vec![in alloc; none; count as usize]?;

@@ -9,3 +9,5 @@ mod classes;
 mod contractions;
 #[cfg(test)]
 mod made;
+#[cfg(test)]
+mod refinement;

@@ -70,7 +70,7 @@ fn points(alloc: Global, numbers: &[u32]) -> Result<List<WorldId>, OutOfMemory> 
 }
 
 // The numbers that `State::build` requires.
-fn check_parts(rt: &impl Abort, parts: &StateParts)
+pub fn check_parts(rt: &impl Abort, parts: &StateParts)
     ensures agents { parts.now.agents ≤ 8 }
     ensures atoms { parts.now.atoms ≤ 256 }
     ensures truth { length parts.now.truth ≤ 65536 }

@@ -13,11 +13,11 @@ use Rattle.ep_planning.specs.Asked.{WasAskedAt}
 
 -- the guide of the words is the command's
 pub asked_of : {G : Type 0} (count : G → ℕ) (old new : List G) (b d : Bounds) (guide other : ℕ) (mode also : Mode) (N : Type 0) → Plan b guide mode ≡ Plan d other also
-    → (1 ≤ b.depth → N → WasAskedAt count old new guide) → 1 ≤ d.depth → N → WasAskedAt count old new other
+    → (1 ≤ b.bound → N → WasAskedAt count old new guide) → 1 ≤ d.bound → N → WasAskedAt count old new other
 asked_of count old new b d guide other mode also N e f some needs =
     let bounds : b ≡ d = cc in
     let place : guide ≡ other = cc in
-    subst (WasAskedAt count old new) place (f (subst (λ (x : Bounds). 1 ≤ x.depth) (sym bounds) some) needs)
+    subst (WasAskedAt count old new) place (f (subst (λ (x : Bounds). 1 ≤ x.bound) (sym bounds) some) needs)
 
 prefix_same : (xs text told : List ℕ) → xs ++ text ≡ xs ++ told → text ≡ told
 prefix_same [] text told e = e

@@ -69,11 +69,16 @@ const TWO_WORLDS: &str =
 fn deep_states_come_first(rt: HostRuntime) -> Result<(), Fail> {
     let seventh = WAYS.replace(rt.alloc(), "action go1 ", SEVENTH)?;
     let two_worlds = WAYS.replace(rt.alloc(), "action go1 ", TWO_WORLDS)?;
-    let rows: [(&[&str], &str, &str); 4] = [
+    let rows: [(&[&str], &str, &str); 5] = [
         (
             &["plan", "t", "--depth", "4"],
             WAYS,
             "plan 1\ntask ways\n# shortest\nactions 4\nt1\nt2\ngo1\ngo2\nend\n",
+        ),
+        (
+            &["plan", "t", "--cost", "4"],
+            WAYS,
+            "plan 2\ntask ways\n# cheapest\ncost 4\nactions 4\nt1\nt2\ngo1\ngo2\nend\n",
         ),
         (&["plan", "t", "--first", "yes"], WAYS, LONG_WAY),
         (&["plan", "t", "--states", "6"], seventh.as_str(), LONG_WAY),
@@ -94,7 +99,7 @@ type Row = (&'static [&'static str], &'static str, u8, &'static str);
 
 const NONE: &str = "none to 0\n";
 
-const PLANNED: [Row; 18] = [
+const PLANNED: [Row; 22] = [
     (&["plan", "t", "--depth", "0"], COIN0, 1, NONE),
     (
         &["plan", "t"],
@@ -189,6 +194,21 @@ const PLANNED: [Row; 18] = [
         0,
         "plan 1\ntask toll\n# shortest\nactions 1\nfly\nend\n",
     ),
+    // The least cost, by however many actions.
+    (
+        &["plan", "t", "--cost", "10"],
+        TOLL,
+        0,
+        "plan 2\ntask toll\n# cheapest\ncost 7\nactions 2\nwalk\nride\nend\n",
+    ),
+    (
+        &["plan", "t", "--cost", "10", "--first", "yes"],
+        TOLL,
+        0,
+        "plan 2\ntask toll\n# found\ncost 10\nactions 1\nfly\nend\n",
+    ),
+    (&["plan", "t", "--cost", "6"], TOLL, 1, "none to cost 6\n"),
+    (&["plan", "t", "--cost", "0"], COIN0, 1, "none to cost 0\n"),
 ];
 
 #[test]

@@ -1,7 +1,7 @@
 // Words that are told apart, and what `check` answers.
 
 use crate::memory::{library, ran, sink, tells_of_task};
-use crate::tasks::{COIN0, KINDS, PAIR};
+use crate::tasks::{COIN0, KINDS, PAIR, TOLL};
 use ep_io::MemorySink;
 use std::alloc::Global;
 use std::process::Abort;
@@ -19,14 +19,25 @@ fn serves(rt: &impl Abort, alloc: Global, rows: &[Row]) -> Result<(), Fail> {
 
 const USAGE: &str = "usage: plan|validate|eval|state|contract|same|check|trial\n";
 
-const WORDS: [Row; 11] = [
+const WORDS: [Row; 12] = [
     (&[], COIN0, 2, USAGE),
     (&["fly"], COIN0, 2, USAGE),
     (&["plan", ""], COIN0, 2, USAGE),
     (&["plan", "-x"], COIN0, 2, USAGE),
     (&["plan", "t", "--depth", "08"], COIN0, 2, USAGE),
     (&["plan", "t", "--depth", "1001"], COIN0, 2, USAGE),
-    (&["plan", "t", "--cost", "10"], COIN0, 2, USAGE),
+    (
+        &["plan", "t", "--cost", "7", "--depth", "3"],
+        TOLL,
+        2,
+        USAGE,
+    ),
+    (
+        &["plan", "t", "--depth", "3", "--cost", "7"],
+        TOLL,
+        2,
+        USAGE,
+    ),
     (&["trial", "9"], COIN0, 2, USAGE),
     (
         &["plan", "t", "--guide", "worlds"],

@@ -16,10 +16,10 @@ use ep_base::OutOfMemory;
 use ep_ground::Task;
 use ep_io::Library;
 use ep_kripke::State;
-use ep_reading::{plan_file, ran, task_file};
+use ep_reading::{read_plan_file, read_task_file, run_to_end};
 use std::alloc::Global;
 
-fn compared(alloc: Global, first: &State, second: &State) -> Result<Answer, OutOfMemory>
+fn compare_states(alloc: Global, first: &State, second: &State) -> Result<Answer, OutOfMemory>
     requires first { first.now.worlds ≤ MOST_CONTRACTED_WORLDS }
     requires second { second.now.worlds ≤ MOST_CONTRACTED_WORLDS }
     ensures { IfOk result (λ answer. Compares first.now second.now (answers answer)) }
@@ -32,7 +32,7 @@ fn compared(alloc: Global, first: &State, second: &State) -> Result<Answer, OutO
 }
 
 // What the second plan leaves, compared with what the first one left.
-fn with_second<L: Library>(
+fn compare_with_second<L: Library>(
     alloc: Global,
     files: &mut L,
     task: &Task,
@@ -43,14 +43,14 @@ fn with_second<L: Library>(
     ensures goes_on { GoesOn (L.library files.old) (L.library files.new) }
     ensures answer { Serves (λ held. PlanFile held OfSecond word.now task.now (λ q. Ran Second task.now q (Compares first.now))) (OnlyPlan OfSecond word.now) ⊥ (L.library files.old) (L.library files.new) result }
 {
-    let plan = plan_file(alloc, files, Subject::SecondPlan, task, word)?;
-    let second = ran(alloc, task, Whose::Second, &plan)?;
-    let answer = compared(alloc, first, &second)?;
+    let plan = read_plan_file(alloc, files, Subject::SecondPlan, task, word)?;
+    let second = run_to_end(alloc, task, Whose::Second, &plan)?;
+    let answer = compare_states(alloc, first, &second)?;
     Ok(answer)
 }
 
 // What the plans leave, compared.
-fn with_both<L: Library>(
+fn compare_both<L: Library>(
     alloc: Global,
     files: &mut L,
     task: &Task,
@@ -60,9 +60,9 @@ fn with_both<L: Library>(
     ensures goes_on { GoesOn (L.library files.old) (L.library files.new) }
     ensures answer { Serves (λ held. TwoPlans held one.now two.now task.now) (BothPlans one.now two.now) ⊥ (L.library files.old) (L.library files.new) result }
 {
-    let plan = plan_file(alloc, files, Subject::FirstPlan, task, one)?;
-    let first = ran(alloc, task, Whose::First, &plan)?;
-    with_second(alloc, files, task, &first, two)
+    let plan = read_plan_file(alloc, files, Subject::FirstPlan, task, one)?;
+    let first = run_to_end(alloc, task, Whose::First, &plan)?;
+    compare_with_second(alloc, files, task, &first, two)
 }
 
 /// Whether what the plans leave is bisimilar.
@@ -76,6 +76,6 @@ pub fn compare_plans<L: Library>(
     ensures goes_on { GoesOn (L.library files.old) (L.library files.new) }
     ensures answer { Serves (λ held. SameWork held file.now one.now two.now) (TaskAndPlans file.now one.now two.now) ⊥ (L.library files.old) (L.library files.new) result }
 {
-    let task = task_file(alloc, files, file)?;
-    with_both(alloc, files, &task, one, two)
+    let task = read_task_file(alloc, files, file)?;
+    compare_both(alloc, files, &task, one, two)
 }

@@ -1,17 +1,28 @@
 //! From words to a command.
 
-use ep_bounds::Mode;
+use ep_bounds::{Measure, Mode};
 use ep_words::{Command, Usage, read_words};
 use std::alloc::{AllocError, Global};
 use std::process::Abort;
 use std::test::Fail;
 
-// Words, the name of their command and its numbers. Those of a plan are the depth, the states, the worlds and the guide.
+// Words, the name of their command and its numbers. Those of a plan are the bound, the states, the worlds and
+// the guide.
 type Row = (&'static [&'static str], &'static str, &'static [u32]);
 
-const PLANS: [Row; 5] = [
+const PLANS: [Row; 7] = [
     (&["plan", "a"], "plan", &[8, 1000, 256, 0]),
     (&["plan", "a", "--depth", "0"], "plan", &[0, 1000, 256, 0]),
+    (
+        &["plan", "a", "--cost", "0"],
+        "plan by cost",
+        &[0, 1000, 256, 0],
+    ),
+    (
+        &["plan", "a", "--worlds", "2", "--cost", "1000"],
+        "plan by cost",
+        &[1000, 1000, 2, 0],
+    ),
     (
         &["plan", "a", "--guide", "unmet", "--depth", "1000"],
         "plan",
@@ -44,7 +55,7 @@ const OTHERS: [Row; 9] = [
     (&["trial", "8"], "trial", &[8]),
 ];
 
-const REFUSED: [&[&str]; 25] = [
+const REFUSED: [&[&str]; 29] = [
     &[],
     &["fly"],
     &["plan"],
@@ -58,6 +69,10 @@ const REFUSED: [&[&str]; 25] = [
     &["plan", "a", "--depth", "-0"],
     &["plan", "a", "--depth", ""],
     &["plan", "a", "--depth", "1", "--depth", "1"],
+    &["plan", "a", "--cost", "1001"],
+    &["plan", "a", "--cost", "1", "--cost", "1"],
+    &["plan", "a", "--depth", "3", "--cost", "7"],
+    &["plan", "a", "--cost", "7", "--depth", "3"],
     &["plan", "a", "--first", "yes", "--first", "yes"],
     &["plan", "a", "--states", "0"],
     &["plan", "a", "--states", "16385"],
@@ -85,20 +100,19 @@ fn read(alloc: Global, words: &[&str]) -> Result<Result<Command, Usage>, AllocEr
     Ok(read_words(&words))
 }
 
+fn plan_name(measure: Measure, mode: Mode) -> &'static str {
+    match measure {
+        Measure::Cost => "plan by cost",
+        Measure::Length => match mode {
+            Mode::Prove => "plan",
+            Mode::First => "first plan",
+        },
+    }
+}
+
 fn name(found: &Result<Command, Usage>) -> &'static str {
     match found {
-        Ok(
-            Command::Plan {
-                mode: Mode::Prove,
-                ..
-            },
-        ) => "plan",
-        Ok(
-            Command::Plan {
-                mode: Mode::First,
-                ..
-            },
-        ) => "first plan",
+        Ok(Command::Plan { bounds, mode, .. }) => plan_name(bounds.measure, *mode),
         Ok(Command::Validate) => "validate",
         Ok(Command::Eval) => "eval",
         Ok(Command::State) => "state",
@@ -113,7 +127,7 @@ fn name(found: &Result<Command, Usage>) -> &'static str {
 fn check_numbers(rt: &impl Abort, found: &Result<Command, Usage>, wanted: &[u32]) {
     match found {
         Ok(Command::Plan { bounds, guide, .. }) => {
-            let numbers = [bounds.depth, bounds.states, bounds.worlds, *guide];
+            let numbers = [bounds.bound, bounds.states, bounds.worlds, *guide];
             assert_eq!(rt; numbers.as_slice(), wanted);
         }
         Ok(Command::Trial { children }) => assert_eq!(rt; [*children].as_slice(), wanted),

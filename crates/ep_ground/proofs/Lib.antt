@@ -1,3 +1,4 @@
+pub mod FirstLemmas
 pub mod FitLemmas
 pub mod FrameLemmas
 pub mod ReadLemmas

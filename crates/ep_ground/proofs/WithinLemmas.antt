@@ -1,5 +1,5 @@
 -- A task that was read, has no type fault and is within the limits can be built.
-use Rattle.std.proofs.Common.{◌≡◌, ℕ, ◌+◌, ◌<◌, ◌≤◌, Bool, true, false, cond, ◌&&◌, nat_lt, List, [], ◌∷◌, ◌++◌, Option, Some, None, Result, Ok, Err, IfOk, length, map, All, refl, sym, subst, arith}
+use Rattle.std.proofs.Common.{◌≡◌, ℕ, ◌+◌, ◌<◌, ◌≤◌, Bool, true, false, cond, ◌&&◌, nat_lt, List, [], ◌∷◌, ◌++◌, Option, Some, None, Result, Ok, Err, IfOk, length, map, All, refl, sym, ◌∙◌, subst, arith}
 use Rattle.std.specs.List.{flat_map}
 use Rattle.std.proofs.lemmas.Bool.Decides.{nat_tests}
 use Rattle.std.proofs.lemmas.List.Elements.{All-nil, All-cons, All-head, All-tail}
@@ -31,6 +31,7 @@ use Rattle.ep_schema.specs.Bodies.{IsBuildableSchema, event_count}
 use Rattle.ep_schema.specs.Written.{Written, written, body_formulas, schema_formulas}
 use Rattle.ep_schema.proofs.CallerLemmas.{IsSmall, IsSound, schema_buildable, schemas_sound}
 use Rattle.ep_ground.specs.Faults.{too_many_events, is_too_large, too_large_formula, too_large, node_total, limit_fault}
+use Rattle.ep_ground.proofs.FirstLemmas.{many_from, many_from_start, too_large-cons}
 use Rattle.ep_ground.specs.Within.{IsWithinLimits}
 use Rattle.ep_ground.specs.Written.{task_formulas}
 use Rattle.ep_ground.specs.declared.fault.GroundError.{GroundError}
@@ -58,7 +59,7 @@ small m n h k = grind (arith, nat_tests)
 all_small : (d : Declared) (xs : List Written) → too_large d xs ≡ None → All (IsSmallForm d) xs
 all_small d [] h = All-nil (IsSmallForm d)
 all_small d (x ∷ xs) h =
-    let here = row-none (is_too_large d x) (too_large_formula x) (too_large d xs) h in
+    let here = row-none (is_too_large d x) (too_large_formula x) (too_large d xs) (sym (too_large-cons d x xs) ∙ h) in
     All-cons (IsSmallForm d) x xs (small x.times (ground_count d x.formula) here.0) (all_small d xs here.1)
 
 front : {X : Type 0} (P : X → Type 0) (xs ys : List X) → All P (xs ++ ys) → All P xs
@@ -76,10 +77,10 @@ small_forms d n l (f ∷ fs) k =
 
 -- ---- schemas
 
-schemas_built : (d : Declared) (n : ℕ) (ss : List SchemaTree) → All (IsSound d) ss → too_many_events n ss ≡ None → All (IsSmallForm d) (flat_map (schema_formulas d) ss) → All (IsBuildableSchema d) ss
+schemas_built : (d : Declared) (n : ℕ) (ss : List SchemaTree) → All (IsSound d) ss → many_from n ss ≡ None → All (IsSmallForm d) (flat_map (schema_formulas d) ss) → All (IsBuildableSchema d) ss
 schemas_built d n [] sound e a = All-nil (IsBuildableSchema d)
 schemas_built d n (s ∷ ss) sound e a =
-    let events = row-none (nat_lt MOST_EVENTS (event_count s.body)) _ (too_many_events (n + 1) ss) e in
+    let events = row-none (nat_lt MOST_EVENTS (event_count s.body)) _ (many_from (n + 1) ss) e in
     let mine = front (IsSmallForm d) (schema_formulas d s) (flat_map (schema_formulas d) ss) a in
     let others = back (IsSmallForm d) (schema_formulas d s) (flat_map (schema_formulas d) ss) a in
     All-cons (IsBuildableSchema d) s ss
@@ -119,9 +120,9 @@ is_within u known h =
     let t = u.tree in
     let total = above MOST_TASK_NODES fault.TooLargeTask (node_total d (task_formulas d t)) in
     let three = too_large d (task_formulas d t) ∷ total ∷ [] in
-    let two = too_many_events 0 t.schemas ∷ three in
+    let two = too_many_events t.schemas ∷ three in
     let actions = none_first (above MOST_GROUND_ACTIONS fault.TooManyActions (length (actions_of d t.schemas))) two h in
-    let events = none_first (too_many_events 0 t.schemas) three actions.1 in
+    let events = none_first (too_many_events t.schemas) three actions.1 in
     let large = none_first (too_large d (task_formulas d t)) (total ∷ []) events.1 in
     let all = all_small d (task_formulas d t) large.0 in
     let first = map (written 1) (init_formulas t.init) in
@@ -133,6 +134,6 @@ is_within u known h =
     record {
       actions = not_above MOST_GROUND_ACTIONS fault.TooManyActions (length (actions_of d t.schemas)) actions.0;
       init = init_built d t.init known.read.formed.4 (init_shallow t known.read) init (small_forms d 1 (omega arith) (init_formulas t.init) (front (IsSmallForm d) first (schemas ++ written 1 t.goal ∷ []) all));
-      schemas = schemas_built d 0 t.schemas sound events.0 (front (IsSmallForm d) schemas (written 1 t.goal ∷ []) behind);
+      schemas = schemas_built d 0 t.schemas sound (sym (many_from_start t.schemas) ∙ events.0) (front (IsSmallForm d) schemas (written 1 t.goal ∷ []) behind);
       goal = build d (closed d) t.goal known.read.formed.6 (goal_shallow t known.read) goal (All-head (IsSmallForm d) (written 1 t.goal) [] (back (IsSmallForm d) schemas (written 1 t.goal ∷ []) behind) (omega arith));
     }

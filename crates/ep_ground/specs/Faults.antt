@@ -1,5 +1,6 @@
 -- The limits on ground actions and ground formulas: the rows of a table in their order, each with its exact count.
-use Rattle.std.specs.Prelude.{ℕ, ◌+◌, ◌*◌, Bool, ◌&&◌, nat_lt, List, [], ◌∷◌, length, map, sum, Option, Some, None, if◌then◌else◌}
+use Rattle.std.specs.Prelude.{ℕ, ◌*◌, Bool, ◌&&◌, nat_lt, List, [], ◌∷◌, length, map, sum, Option, option_map}
+use Rattle.std.specs.List.{find, range_with_len, zip}
 use Rattle.ep_base.specs.Refusals.{above, first_some}
 use Rattle.ep_logic.specs.declared.limits.TheConstants.{MOST_EVENTS, MOST_GROUND_ACTIONS}
 use Rattle.ep_ground.specs.declared.limits.TheConstants.{MOST_TASK_NODES}
@@ -16,11 +17,16 @@ use Rattle.ep_universe.specs.FirstToken.{first_token}
 use Rattle.ep_schema.specs.Written.{Written}
 use Rattle.ep_ground.specs.Written.{task_formulas}
 
--- the first schema with too many, from a number on
-abbrev pub too_many_events : ℕ → List SchemaTree → Option GroundError
-too_many_events n [] = None
-too_many_events n (s ∷ ss) =
-    if nat_lt MOST_EVENTS (event_count s.body) then Some (fault.TooManyEvents n (event_count s.body)) else too_many_events (n + 1) ss
+-- whether a schema writes too many events
+abbrev pub has_many_events : ℕ × SchemaTree → Bool
+has_many_events s = nat_lt MOST_EVENTS (event_count s.1.body)
+
+abbrev pub many_events : ℕ × SchemaTree → GroundError
+many_events s = fault.TooManyEvents s.0 (event_count s.1.body)
+
+-- the first schema that does, by its number
+abbrev pub too_many_events : List SchemaTree → Option GroundError
+too_many_events ss = option_map many_events (find has_many_events (zip (range_with_len 0 (length ss)) ss))
 
 -- a ground form that is too large, where there is one
 abbrev pub is_too_large : Declared → Written → Bool
@@ -31,8 +37,7 @@ too_large_formula x = fault.TooLargeFormula (first_token x.formula)
 
 -- the first formula with a ground form that is too large
 abbrev pub too_large : Declared → List Written → Option GroundError
-too_large d [] = None
-too_large d (x ∷ xs) = if is_too_large d x then Some (too_large_formula x) else too_large d xs
+too_large d xs = option_map too_large_formula (find (is_too_large d) xs)
 
 -- the nodes of all ground forms of a formula
 abbrev pub nodes_of : Declared → Written → ℕ
@@ -46,7 +51,7 @@ node_total d xs = sum (map (nodes_of d) xs)
 abbrev pub limit_fault : Declared → TaskTree → Option GroundError
 limit_fault d t = first_some (
     above MOST_GROUND_ACTIONS fault.TooManyActions (length (actions_of d t.schemas))
-    ∷ too_many_events 0 t.schemas
+    ∷ too_many_events t.schemas
     ∷ too_large d (task_formulas d t)
     ∷ above MOST_TASK_NODES fault.TooLargeTask (node_total d (task_formulas d t))
     ∷ [])

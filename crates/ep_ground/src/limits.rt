@@ -42,7 +42,7 @@ fn event_count(body: &BodyTree) -> usize
 
 fn check_events(schemas: &[SchemaTree]) -> Result<(), GroundError>
     requires { length schemas.now ≤ MOST_TOKENS }
-    ensures { result ≡ told (too_many_events 0 schemas.now) }
+    ensures { result ≡ told (too_many_events schemas.now) }
 {
     for (number, schema) in schemas.iter().enumerate() {
         let count = event_count(&schema.body);

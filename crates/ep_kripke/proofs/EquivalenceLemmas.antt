@@ -1,40 +1,35 @@
 -- Equivalences, told by rows of successors.
-use Rattle.std.proofs.Common.{◌≡◌, ℕ, ◌<◌, ◌*◌, Bool, true, false, ◌↔◌, List, [], length, map, get_or, IsTrue, refl, sym, ◌∙◌, ap, ap₂, subst, arith}
+use Rattle.std.proofs.Common.{◌≡◌, ℕ, ◌<◌, Bool, List, [], length, get_or, IsTrue, sym, ◌∙◌, subst, arith}
 use Rattle.std.specs.List.{AllByRecursion}
 use Rattle.std.specs.Ordering.{nat_cmp}
 use Rattle.std.proofs.lemmas.List.{get_or_default}
-use Rattle.ep_logic.specs.Numbers.{numbers_where}
 use Rattle.ep_logic.specs.Packed.{bit_in, unpacked, IsPacked}
-use Rattle.ep_logic.proofs.CallerLemmas.{numbers_where-same}
+use Rattle.ep_logic.specs.Rows.{value_at}
 use Rattle.ep_theory.specs.Rising.{IsIn, IsRising}
-use Rattle.ep_theory.specs.Kripke.{Kripke, IsState, links_of, successors}
+use Rattle.ep_theory.specs.Kripke.{Kripke, IsState, pair_cmp, links_of, successors}
 use Rattle.ep_theory.specs.Equivalences.{IsEquivalence, IsS5}
-use Rattle.ep_theory.specs.Relations.{all_pairs, row_pairs}
-use Rattle.ep_theory.proofs.CallerLemmas.{All-at, at_All, All-from_each, Contains-from_in, numbers, same_rising, from_row_pairs, to_row_pairs, rising_successors, links_rising, links_within, from_successors}
+use Rattle.ep_theory.specs.Relations.{all_pairs}
+use Rattle.ep_theory.proofs.CallerLemmas.{All-at, at_All, All-from_each, Contains-from_in, numbers, same_rising, from_row_pairs, row_pairs_rise, successors-all_pairs, to_classes, from_classes, rising_numbers, rising_successors, links_rising, links_within, from_successors}
 use Rattle.ep_kripke.specs.Relations.{members, named_rows}
 use Rattle.ep_kripke.specs.States.{AreRow}
 use Rattle.ep_kripke.specs.Equivalence.{IsShared, IsClass}
-use Rattle.ep_kripke.proofs.NamingLemmas.{members_at}
-use Rattle.ep_kripke.proofs.NameLemmas.{name_within, row_seen}
-use Rattle.ep_kripke.proofs.RelationLemmas.{places_are, member_is}
-
-same_truth : (a b : Bool) → (IsTrue a → IsTrue b) → (IsTrue b → IsTrue a) → a ≡ b
-same_truth true b f g = sym (f refl)
-same_truth false true f g = g refl
-same_truth false false f g = refl
+use Rattle.ep_kripke.proofs.NameLemmas.{row_seen}
+use Rattle.ep_kripke.proofs.RelationLemmas.{member_is}
 
 -- rows of words with the same bits have the same members
-pub same_members : (a b : List ℕ) (n : ℕ) → IsPacked a n → IsPacked b n → ((k : ℕ) → IsTrue (bit_in a k) → IsTrue (bit_in b k)) → ((k : ℕ) → IsTrue (bit_in b k) → IsTrue (bit_in a k)) → members (unpacked a n) ≡ members (unpacked b n)
-same_members a b n p q f g =
-    sym (places_are a n p)
-    ∙ ap (λ m. numbers_where (bit_in a) (m * 64)) (p.long ∙ sym q.long)
-    ∙ numbers_where-same (bit_in a) (bit_in b) (length b * 64) (λ k l. same_truth (bit_in a k) (bit_in b k) (f k) (g k))
-    ∙ places_are b n q
+members_rise : (row : List Bool) → IsRising nat_cmp (members row)
+unfolding members
+members_rise row = rising_numbers (value_at row) (length row)
 
-pub same_bits_from : (a b : List ℕ) (n : ℕ) → IsPacked a n → IsPacked b n → members (unpacked a n) ≡ members (unpacked b n) → (k : ℕ) → IsTrue (bit_in a k) → IsTrue (bit_in b k)
-same_bits_from a b n p q e k t = (member_is b n k q).1 (subst (IsIn k) e ((member_is a n k p).0 t))
+pub same_members : (a b : List ℕ) (n m : ℕ) → IsPacked a n → IsPacked b m → ((k : ℕ) → IsTrue (bit_in a k) → IsTrue (bit_in b k)) → ((k : ℕ) → IsTrue (bit_in b k) → IsTrue (bit_in a k)) → members (unpacked a n) ≡ members (unpacked b m)
+same_members a b n m p q f g = same_rising nat_cmp numbers (members (unpacked a n)) (members (unpacked b m)) (members_rise (unpacked a n)) (members_rise (unpacked b m))
+    (λ k i. (member_is b m k q).0 (f k ((member_is a n k p).1 i)))
+    (λ k i. (member_is a n k p).0 (g k ((member_is b m k q).1 i)))
 
--- the rows of an equivalence are its classes
+pub same_bits_from : (a b : List ℕ) (n m : ℕ) → IsPacked a n → IsPacked b m → members (unpacked a n) ≡ members (unpacked b m) → (k : ℕ) → IsTrue (bit_in a k) → IsTrue (bit_in b k)
+same_bits_from a b n m p q e k t = (member_is b m k q).1 (subst (IsIn k) e ((member_is a n k p).0 t))
+
+-- the rows of an equivalence are its classes, as the law of equivalences says of their pairs
 module _ (rows : List (List ℕ)) (fit : AllByRecursion (AreRow (length rows)) rows) where
   row : (w : ℕ) → w < length rows → AreRow (length rows) (get_or rows w [])
   row w l = All-at (AreRow (length rows)) rows w [] l fit
@@ -42,28 +37,31 @@ module _ (rows : List (List ℕ)) (fit : AllByRecursion (AreRow (length rows)) r
   below : (w v : ℕ) → w < length rows → IsIn v (get_or rows w []) → v < length rows
   below w v l i = at_All (λ v. v < length rows) v (get_or rows w []) (row w l).within i
 
+  own : (w : ℕ) → w < length rows → successors (all_pairs rows) w ≡ get_or rows w []
+  own w l = successors-all_pairs rows w l
+
+  rises : IsRising pair_cmp (all_pairs rows)
+  rises = row_pairs_rise rows (length rows) (omega arith) (All-from_each (IsRising nat_cmp) rows (λ r i. (at_All (AreRow (length rows)) r rows fit i).rising))
+
+  within : AllByRecursion (λ p. (p.0 < length rows) × (p.1 < length rows)) (all_pairs rows)
+  within = All-from_each (λ (p : ℕ × ℕ). (p.0 < length rows) × (p.1 < length rows)) (all_pairs rows) (λ p i.
+      let r = from_row_pairs rows (length rows) p.0 p.1 i in (r.0, below p.0 p.1 r.0 r.1))
+
   pub from_equivalence : IsEquivalence (length rows) (all_pairs rows) → (w : ℕ) → w < length rows → IsClass rows w
-  from_equivalence e w l = record {
-    itself = (from_row_pairs rows (length rows) w w (e.reflexive w l)).1;
-    same = λ v i.
-        let m : v < length rows = below w v l i in
-        let to : IsIn (w, v) (all_pairs rows) = to_row_pairs rows (length rows) w v l i in
-        same_rising nat_cmp numbers (get_or rows v []) (get_or rows w []) (row v m).rising (row w l).rising
-        (λ z j. (from_row_pairs rows (length rows) w z (e.transitive w v z to (to_row_pairs rows (length rows) v z m j))).1)
-        (λ z j. (from_row_pairs rows (length rows) v z (e.transitive v w z (e.symmetric w v to) (to_row_pairs rows (length rows) w z l j))).1);
-  }
+  from_equivalence e w l =
+      let c = to_classes (length rows) (all_pairs rows) rises within e w l in
+      record {
+        itself = subst (IsIn w) (own w l) c.0;
+        same = λ v i. sym (own v (below w v l i)) ∙ at_All (λ v. successors (all_pairs rows) v ≡ successors (all_pairs rows) w) v (successors (all_pairs rows) w) c.1 (subst (IsIn v) (sym (own w l)) i) ∙ own w l;
+      }
 
   pub to_equivalence : ((w : ℕ) → w < length rows → IsClass rows w) → IsEquivalence (length rows) (all_pairs rows)
-  to_equivalence c = record {
-    reflexive = λ w l. to_row_pairs rows (length rows) w w l (c w l).itself;
-    symmetric = λ w v i.
-        let r = from_row_pairs rows (length rows) w v i in
-        to_row_pairs rows (length rows) v w (below w v r.0 r.1) (subst (IsIn w) (sym ((c w r.0).same v r.1)) (c w r.0).itself);
-    transitive = λ w v u i j.
-        let r = from_row_pairs rows (length rows) w v i in
-        let q = from_row_pairs rows (length rows) v u j in
-        to_row_pairs rows (length rows) w u r.0 (subst (IsIn u) ((c w r.0).same v r.1) q.1);
-  }
+  to_equivalence c = from_classes (length rows) (all_pairs rows) within (λ w l. (
+    subst (IsIn w) (sym (own w l)) (c w l).itself,
+    All-from_each (λ v. successors (all_pairs rows) v ≡ successors (all_pairs rows) w) (successors (all_pairs rows) w) (λ v i.
+        let j : IsIn v (get_or rows w []) = subst (IsIn v) (own w l) i in
+        own v (below w v l j) ∙ (c w l).same v j ∙ sym (own w l)),
+  ))
 
 -- the class of a world by the names of rows
 pub class_is : (names : List ℕ) (rows seen : List (List ℕ)) (w : ℕ) → named_rows names rows ≡ seen → AllByRecursion (AreRow (length seen)) seen → w < length seen → IsIn w (get_or rows (get_or names w 0) []) → IsShared rows names (get_or names w 0) → IsClass seen w

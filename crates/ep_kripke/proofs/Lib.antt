@@ -11,4 +11,7 @@ pub mod SameStates
 pub mod SourceLemmas
 pub mod TakingLemmas
 pub mod EquivalenceLemmas
+pub mod RowTableLemmas
+pub mod InterningLemmas
+pub mod KeyLemmas
 pub mod CallerLemmas

@@ -1,16 +1,18 @@
 -- Rows that are named as they come.
-use Rattle.std.proofs.Common.{◌≡◌, ℕ, zero, suc, ◌+◌, ◌*◌, ◌<◌, ◌≤◌, Bool, true, false, cond, List, [], ◌∷◌, ◌++◌, length, map, sum_by, length-append, get_or, replicate, refl, sym, ap, ap₂, ◌∙◌, arith}
+use Rattle.std.proofs.Common.{◌≡◌, ℕ, zero, suc, ◌+◌, ◌<◌, ◌≤◌, Bool, true, false, cond, List, [], ◌∷◌, ◌++◌, length, map, sum_by, length-append, get_or, replicate, refl, sym, ap, ap₂, ◌∙◌, arith, subst}
 use Rattle.std.specs.Ordering.{nat_cmp}
 use Rattle.std.specs.List.{AllByRecursion}
-use Rattle.std.proofs.lemmas.List.{length-map, get_or-replicate, length-replicate}
+use Rattle.std.proofs.lemmas.List.{length-map, map-append, get_or-map, get_or-replicate, length-replicate}
 use Rattle.std.proofs.lemmas.List.Sums.{sum_by-cons}
 use Rattle.ep_logic.specs.Numbers.{has_number, table, numbers_where}
-use Rattle.ep_logic.specs.Rows.{value_at, true_places}
-use Rattle.ep_logic.proofs.CallerLemmas.{length-table, row_is_table, replicate-table, true_places-table, length-snoc}
+use Rattle.ep_logic.proofs.CallerLemmas.{row_is_table, replicate-table, true_places-table, length-snoc}
 use Rattle.ep_theory.specs.Rising.{IsRising}
-use Rattle.ep_theory.proofs.CallerLemmas.{rising_is_numbers}
+use Rattle.ep_theory.proofs.CallerLemmas.{All-at, rising_is_numbers}
 use Rattle.ep_kripke.specs.declared.limits.TheConstants.{MOST_WORLDS}
 use Rattle.ep_kripke.specs.Relations.{members, named_rows, IsNamed, Extends}
+use Rattle.ep_kripke.specs.declared.row_set.Kept.{Kept}
+use Rattle.ep_kripke.specs.Kept.{kept_rows, names_of, AreWide, IsNaming}
+use Rattle.ep_kripke.proofs.NameLemmas.{length-named, named-at}
 
 -- marks written into a blank row are those of the numbers
 pub marked_row : (n : ℕ) (blank marked : List Bool) (xs : List ℕ) → blank ≡ replicate n false → length marked ≡ length blank →
@@ -97,3 +99,77 @@ module _ (old new : List (List ℕ)) (names : List ℕ) (links name : ℕ) (row 
         let e : sum_by length (named_rows (names ++ name ∷ []) new) ≡ sum_by length (named_rows names old) + length row = ap (sum_by length) rows_named ∙ sum_snoc (named_rows names old) row in
         omega (arith, e, before.count);
   }
+
+-- one more name, with the length of its row
+all_snoc : (P : ℕ × ℕ → Type 0) (xs : List (ℕ × ℕ)) (x : ℕ × ℕ) → AllByRecursion P xs → P x → AllByRecursion P (xs ++ x ∷ [])
+all_snoc P [] x a h = (h, tt)
+all_snoc P (y ∷ ys) x a h = (a.0, all_snoc P ys x a.1 h)
+
+names_more : (pushed : List (ℕ × ℕ)) (name long : ℕ) → names_of (pushed ++ (name, long) ∷ []) ≡ names_of pushed ++ name ∷ []
+names_more pushed name long = map-append (λ (p : ℕ × ℕ). p.0) pushed ((name, long) ∷ [])
+
+module _ (worlds : ℕ) (old new : Kept) (before blank : List Bool) (pushed : List (ℕ × ℕ)) (links name : ℕ) (row : List ℕ)
+    (was : IsNaming worlds old before pushed links) (room : length pushed < MOST_WORLDS) (more : Extends (kept_rows old) (kept_rows new)) (wide : AreWide worlds blank new)
+    (has : name < length (kept_rows new)) (is : get_or (kept_rows new) name [] ≡ row) (short : length row ≤ MOST_WORLDS) where
+  few_rows : length (kept_rows new) ≤ MOST_WORLDS
+  few_rows = omega (arith, room, was.few, more.one)
+
+  pub rows_pushed : named_rows (names_of (pushed ++ (name, length row) ∷ [])) (kept_rows new) ≡ named_rows (names_of pushed) (kept_rows old) ++ row ∷ []
+  rows_pushed = ap (λ ns. named_rows ns (kept_rows new)) (names_more pushed name (length row))
+      ∙ rows_named (kept_rows old) (kept_rows new) (names_of pushed) links name row was.named few_rows more has is
+
+  pub is_pushed : IsNaming worlds new blank (pushed ++ (name, length row) ∷ []) (links + length row)
+  is_pushed = record {
+    named = subst (λ ns. IsNamed ns (kept_rows new) (links + length row)) (sym (names_more pushed name (length row)))
+        (is_named (kept_rows old) (kept_rows new) (names_of pushed) links name row was.named few_rows more has is);
+    lengths = map-append (λ (p : ℕ × ℕ). p.1) pushed ((name, length row) ∷ []) ∙ ap (λ ls. ls ++ length row ∷ []) was.lengths
+        ∙ sym (ap (map length) rows_pushed ∙ map-append (length {A = ℕ}) (named_rows (names_of pushed) (kept_rows old)) (row ∷ []));
+    short = all_snoc (λ p. p.1 ≤ MOST_WORLDS) pushed (name, length row) was.short short;
+    wide = wide;
+    small = was.small;
+    few = omega (arith, more.one, was.few, length-snoc pushed (name, length row));
+    room = omega (arith, room, length-snoc pushed (name, length row));
+    bound = omega (arith, was.bound, short, length-snoc pushed (name, length row));
+  }
+
+-- what a place has: the number of its row and how long the row is
+pushed_at : (worlds : ℕ) (kept : Kept) (blank : List Bool) (pushed : List (ℕ × ℕ)) (links at : ℕ) → IsNaming worlds kept blank pushed links → at < length pushed →
+    ((get_or pushed at (0, 0)).0 < length (kept_rows kept)) × (get_or (kept_rows kept) (get_or pushed at (0, 0)).0 [] ≡ get_or (named_rows (names_of pushed) (kept_rows kept)) at [])
+    × ((get_or pushed at (0, 0)).1 ≡ length (get_or (named_rows (names_of pushed) (kept_rows kept)) at [])) × ((get_or pushed at (0, 0)).1 ≤ MOST_WORLDS)
+pushed_at worlds kept blank pushed links at was l =
+    let many : at < length (names_of pushed) = omega (arith, l, length-map pushed (λ (p : ℕ × ℕ). p.0)) in
+    let name : get_or (names_of pushed) at 0 ≡ (get_or pushed at (0, 0)).0 = get_or-map (λ (p : ℕ × ℕ). p.0) pushed at (0, 0) 0 l in
+    let rows = named_rows (names_of pushed) (kept_rows kept) in (
+      subst (λ n. n < length (kept_rows kept)) name (All-at (λ i. i < length (kept_rows kept)) (names_of pushed) at 0 many was.named.within),
+      ap (λ n. get_or (kept_rows kept) n []) (sym name) ∙ sym (named-at (names_of pushed) (kept_rows kept) at many),
+      sym (get_or-map (λ (p : ℕ × ℕ). p.1) pushed at (0, 0) 0 l) ∙ ap (λ ls. get_or ls at 0) was.lengths
+          ∙ get_or-map (length {A = ℕ}) (named_rows (names_of pushed) (kept_rows kept)) at [] 0 (omega (arith, many, length-named (names_of pushed) (kept_rows kept))),
+      All-at (λ (p : ℕ × ℕ). p.1 ≤ MOST_WORLDS) pushed at (0, 0) l was.short,
+    )
+
+-- rows that stay
+extends_itself : (rows : List (List ℕ)) → Extends rows rows
+extends_itself rows = record { long = omega arith; one = omega arith; same = λ i l. refl }
+
+-- the row of a place, once more
+pub record IsAgain (worlds : ℕ) (kept : Kept) (blank : List Bool) (pushed : List (ℕ × ℕ)) (links at name long : ℕ) : Type 0 where
+  pub naming : IsNaming worlds kept blank (pushed ++ (name, long) ∷ []) (links + long)
+  pub rows : named_rows (names_of (pushed ++ (name, long) ∷ [])) (kept_rows kept) ≡ named_rows (names_of pushed) (kept_rows kept) ++ get_or (named_rows (names_of pushed) (kept_rows kept)) at [] ∷ []
+
+pub again : (worlds : ℕ) (kept : Kept) (blank : List Bool) (pushed : List (ℕ × ℕ)) (links at name long : ℕ) → IsNaming worlds kept blank pushed links → at < length pushed → length pushed < MOST_WORLDS →
+    (name, long) ≡ get_or pushed at (0, 0) → IsAgain worlds kept blank pushed links at name long
+again worlds kept blank pushed links at name long was l room e =
+    let p = pushed_at worlds kept blank pushed links at was l in
+    let row = get_or (named_rows (names_of pushed) (kept_rows kept)) at [] in
+    let n : name ≡ (get_or pushed at (0, 0)).0 = ap (λ (x : ℕ × ℕ). x.0) e in
+    let m : long ≡ (get_or pushed at (0, 0)).1 = ap (λ (x : ℕ × ℕ). x.1) e in
+    let long_is : long ≡ length (get_or (named_rows (names_of pushed) (kept_rows kept)) at []) = m ∙ p.2 in
+    let has : name < length (kept_rows kept) = subst (λ k. k < length (kept_rows kept)) (sym n) p.0 in
+    let is : get_or (kept_rows kept) name [] ≡ get_or (named_rows (names_of pushed) (kept_rows kept)) at [] = ap (λ k. get_or (kept_rows kept) k []) n ∙ p.1 in
+    let short : length (get_or (named_rows (names_of pushed) (kept_rows kept)) at []) ≤ MOST_WORLDS = omega (arith, p.2, p.3) in
+    record {
+      naming = subst (λ k. IsNaming worlds kept blank (pushed ++ (name, k) ∷ []) (links + k)) (sym long_is)
+          (is_pushed worlds kept kept blank blank pushed links name row was room (extends_itself (kept_rows kept)) was.wide has is short);
+      rows = ap (λ k. named_rows (names_of (pushed ++ (name, k) ∷ [])) (kept_rows kept)) long_is
+          ∙ rows_pushed worlds kept kept blank blank pushed links name row was room (extends_itself (kept_rows kept)) was.wide has is short;
+    }

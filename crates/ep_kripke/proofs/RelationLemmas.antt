@@ -1,5 +1,5 @@
 -- Rows of bits as lists of numbers.
-use Rattle.std.proofs.Common.{◌≡◌, ℕ, zero, suc, ◌*◌, ◌<◌, ◌≤◌, Bool, true, false, ◌&&◌, ◌↔◌, inl, inr, List, [], ◌∷◌, length, get_or, IsTrue, refl, sym, ◌∙◌, ap, ap₂, subst, arith, ⊎_elim}
+use Rattle.std.proofs.Common.{◌≡◌, ℕ, ◌*◌, ◌≤◌, Bool, true, false, ◌↔◌, inl, inr, List, [], ◌∷◌, length, IsTrue, refl, sym, ◌∙◌, ap, arith, ⊎_elim}
 use Rattle.std.specs.List.{list_all}
 use Rattle.std.proofs.lemmas.List.{get_or_past}
 use Rattle.ep_logic.specs.Packed.{bit_in, unpacked, IsPacked}
@@ -35,7 +35,7 @@ member_is ws n v p = (
       sym (unpacked-get ws n v false (omega (arith, r.0, length-unpacked ws n))) ∙ r.1,
 )
 
-value_is : (ws : List ℕ) (n v : ℕ) → IsPacked ws n → value_at (unpacked ws n) v ≡ bit_in ws v
+pub value_is : (ws : List ℕ) (n v : ℕ) → IsPacked ws n → value_at (unpacked ws n) v ≡ bit_in ws v
 value_is ws n v p = elim (dec_lt v n) [
   | yes l ↦ unpacked-get ws n v false l
   | no m ↦ get_or_past (unpacked ws n) v false (omega (arith, m, length-unpacked ws n)) ∙ sym (p.tail v (omega arith))
@@ -52,7 +52,7 @@ all_to : (p : ℕ → Bool) (xs : List ℕ) → ((x : ℕ) → IsIn x xs → IsT
 all_to p [] h = refl
 all_to p (y ∷ ys) h = and_whole (p y) (list_all p ys) (h y (inl refl)) (all_to p ys (λ x i. h x (inr i)))
 
-same_truth : (a b : Bool) → (IsTrue a → IsTrue b) → (IsTrue b → IsTrue a) → a ≡ b
+pub same_truth : (a b : Bool) → (IsTrue a → IsTrue b) → (IsTrue b → IsTrue a) → a ≡ b
 same_truth true b f g = sym (f refl)
 same_truth false true f g = g refl
 same_truth false false f g = refl

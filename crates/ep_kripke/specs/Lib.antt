@@ -6,3 +6,6 @@ pub mod Kept
 pub mod Sources
 pub mod Taking
 pub mod Equivalence
+pub mod RowTables
+pub mod RowSets
+pub mod Interning

@@ -1,6 +1,6 @@
 // From links and designated worlds in any order to rows.
 
-ghost use Rattle.std.specs.Prelude.{◌≡◌, ℕ, ◌<◌, ◌≤◌, ◌≢◌, IfOk, length, map, slice_index_or};
+ghost use Rattle.std.specs.Prelude.{◌≡◌, ℕ, ◌<◌, ◌≤◌, ◌≢◌, ◌↔◌, IsTrue, IfOk, length, map, slice_index_or};
 ghost use Rattle.std.specs.List.{AllByRecursion};
 ghost use Rattle.ep_logic.specs.Numbers.{table};
 ghost use Rattle.ep_theory.specs.Rising.{IsRising};
@@ -154,10 +154,17 @@ fn end_of(pairs: &[(u32, u32)], at: usize, world: u32) -> usize
     ensures next { result < length pairs.now → (slice_index_or pairs.now result (0, 0)).0 ≢ world }
 {
     let mut end = at;
-    while end < pairs.len() && pairs[end].0 == world {
+    while begins_at(pairs, end, world) {
         end += 1;
     }
     end
+}
+
+// Whether a pair of the world stands at a place.
+fn begins_at(pairs: &[(u32, u32)], at: usize, world: u32) -> bool
+    ensures { IsTrue result ↔ ((at < length pairs.now) × ((slice_index_or pairs.now at (0, 0)).0 ≡ world)) }
+{
+    at < pairs.len() && pairs[at].0 == world
 }
 
 fn seconds(alloc: Global, pairs: &[(u32, u32)]) -> Result<Vec<u32>, OutOfMemory>

@@ -6,6 +6,7 @@ ghost use Rattle.ep_kripke.specs.declared.limits.TheConstants.{MOST_WORLDS};
 ghost use Rattle.ep_kripke.specs.Relations.{members};
 ghost use Rattle.ep_kripke.specs.Equivalence.{IsShared};
 
+use crate::row::Row;
 use crate::row_set::{has_member, words_within};
 use crate::rows::Rows;
 use ep_logic::BitTable;
@@ -31,6 +32,23 @@ pub(crate) fn bits_are_shared(table: &BitTable, at: u32, names: &[u32]) -> bool
 {
     for v in 0..names.len() {
         if has_member(table, at, v as u32) && !same_bits(table, names[v], at) {
+            return false;
+        }
+    }
+    true
+}
+
+// Whether each true place of the row has, by these names, a row with the same true places.
+pub(crate) fn rows_are_shared(rows: &[Row], at: u32, names: &[u32]) -> bool
+    requires row { at < length rows.now }
+    requires few { length names.now ≤ MOST_WORLDS }
+    requires names { AllByRecursion (λ i. i < length rows.now) names.now }
+    requires within { AllByRecursion (λ v. v < length names.now) (members (slice_index_or rows.now at [])) }
+    ensures { IsTrue result ↔ IsShared (map members rows.now) names.now at }
+{
+    let row = &rows[at as usize];
+    for v in 0..names.len() {
+        if row.has_member(v as u32) && !rows[names[v] as usize].has_same_members(row) {
             return false;
         }
     }

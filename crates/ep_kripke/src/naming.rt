@@ -6,7 +6,7 @@ ghost use Rattle.ep_logic.specs.Packed.{unpacked, IsPacked};
 ghost use Rattle.ep_logic.specs.Rows.{value_at};
 ghost use Rattle.ep_theory.specs.Rising.{IsRising};
 ghost use Rattle.ep_kripke.specs.Relations.{members, Extends};
-ghost use Rattle.ep_kripke.specs.Kept.{kept_rows, AreWide};
+ghost use Rattle.ep_kripke.specs.Kept.{kept_rows, names_of, AreWide};
 
 use crate::hint::{FIRST_ROWS, Hint, mix_numbers, mix_words};
 use crate::limits::{MOST_PACKED, MOST_WORLDS};
@@ -26,19 +26,20 @@ pub struct Naming {
     // a row of bits that is empty between two calls
     blank: Bits,
     hint: Hint,
-    names: Vec<u32>,
+    // for each place the number of its row, and how long the row is
+    pushed: Vec<(u32, u32)>,
     links: u64,
 }
 
 impl Model for Naming {
     ghost use Rattle.ep_kripke.specs.Relations.{RowsSeen, named_rows};
-    ghost use Rattle.ep_kripke.specs.Kept.{kept_rows, IsNaming};
+    ghost use Rattle.ep_kripke.specs.Kept.{kept_rows, names_of, IsNaming};
 
     ghost Value = { RowsSeen };
 
-    ghost view = { λ n. record { worlds = n.worlds; rows = named_rows n.names.items (kept_rows n.kept) } };
+    ghost view = { λ n. record { worlds = n.worlds; rows = named_rows (names_of n.pushed.items) (kept_rows n.kept) } };
 
-    ghost invariant = { λ n. IsNaming n.worlds n.kept n.blank n.names.items n.links };
+    ghost invariant = { λ n. IsNaming n.worlds n.kept n.blank n.pushed.items n.links };
 }
 
 impl Naming {
@@ -61,7 +62,7 @@ impl Naming {
         requires within { AllByRecursion (λ v. v < self.old.worlds) row.now }
         ensures { OnOk result (self.new ≡ record self.old { rows = self.old.rows ++ row.now ∷ [] }) }
     {
-        self.names.reserve(1)?;
+        self.pushed.reserve(1)?;
         let name = name_of(
             self.worlds,
             &mut self.kept,
@@ -69,8 +70,22 @@ impl Naming {
             &mut self.hint,
             row,
         )?;
-        self.names.push(name)?;
+        self.pushed.push((name, row.len() as u32))?;
         self.links += row.len() as u64;
+        Ok(())
+    }
+
+    /// Puts the row at a place once more, at the end.
+    pub fn push_again(&mut self, at: u32) -> Result<(), OutOfMemory>
+        requires place { at < length self.old.rows }
+        requires room { length self.old.rows < MOST_WORLDS }
+        ensures { OnOk result (self.new ≡ record self.old {
+          rows = self.old.rows ++ slice_index_or self.old.rows at [] ∷ [];
+        }) }
+    {
+        let (name, long) = self.pushed[at as usize];
+        self.pushed.push((name, long))?;
+        self.links += u64::from(long);
         Ok(())
     }
 
@@ -78,8 +93,15 @@ impl Naming {
     pub fn finish(self, alloc: Global) -> Result<Relation, OutOfMemory>
         ensures { IfOk result (λ r. r ≡ self.rows) }
     {
-        Relation::from_named(alloc, self.names, RowSet::from_kept(self.kept), self.links)
+        let names = numbers_of(alloc, &self.pushed)?;
+        Relation::from_named(alloc, names, RowSet::from_kept(self.kept), self.links)
     }
+}
+
+fn numbers_of(alloc: Global, pushed: &[(u32, u32)]) -> Result<Vec<u32>, OutOfMemory>
+    ensures { IfOk result (λ v. v.items ≡ names_of pushed.now) }
+{
+    Ok(pushed.iter().map(|named| named.0).collect(alloc)?)
 }
 
 fn packed(alloc: Global, worlds: u32) -> Result<Naming, OutOfMemory>
@@ -91,7 +113,7 @@ fn packed(alloc: Global, worlds: u32) -> Result<Naming, OutOfMemory>
         kept: Kept::Packed(BitTable::zeros(alloc, 0, worlds)?),
         blank: Bits::zeros(alloc, worlds)?,
         hint: Hint::new(alloc),
-        names: Vec::new(alloc),
+        pushed: Vec::new(alloc),
         links: 0,
     })
 }
@@ -105,7 +127,7 @@ fn listed(alloc: Global, worlds: u32) -> Result<Naming, OutOfMemory>
         kept: Kept::Listed(Rows::new(alloc)),
         blank: Bits::zeros(alloc, 0)?,
         hint: Hint::new(alloc),
-        names: Vec::new(alloc),
+        pushed: Vec::new(alloc),
         links: 0,
     })
 }

@@ -1,18 +1,20 @@
-ghost use Rattle.std.specs.Prelude.{◌≡◌, ℕ, ◌<◌, ◌≤◌, ◌↔◌, ◌++◌, [], length, map, slice_index_or, IsTrue, IfOk, OnOk};
+ghost use Rattle.std.specs.Prelude.{◌≡◌, ℕ, ◌<◌, ◌≤◌, ◌↔◌, ◌++◌, [], length, map, slice_index_or, IsTrue, IfSome, IfOk, OnOk};
 ghost use Rattle.std.specs.Ordering.{nat_cmp};
 ghost use Rattle.std.specs.List.{AllByRecursion, list_all};
 ghost use Rattle.ep_logic.specs.Numbers.{table};
-ghost use Rattle.ep_logic.specs.Packed.{bit_in};
+ghost use Rattle.ep_logic.specs.Packed.{bit_in, unpacked, IsPacked};
 ghost use Rattle.ep_logic.specs.Rows.{value_at};
 ghost use Rattle.ep_theory.specs.Rising.{IsIn, IsRising};
 ghost use Rattle.ep_kripke.specs.declared.limits.TheConstants.{MOST_WORLDS};
 ghost use Rattle.ep_kripke.specs.Relations.{members};
 ghost use Rattle.ep_kripke.specs.Kept.{kept_rows};
 ghost use Rattle.ep_kripke.specs.Equivalence.{IsShared};
+ghost use Rattle.ep_kripke.specs.Interning.{row_of};
 
-use crate::equivalence::{bits_are_shared, list_is_shared};
+use crate::equivalence::{bits_are_shared, list_is_shared, rows_are_shared};
+use crate::row::Row;
 use crate::rows::Rows;
-use ep_logic::{BitTable, Bits, OutOfMemory, put_places};
+use ep_logic::{BitTable, Bits, List, OutOfMemory, put_places};
 use std::alloc::Global;
 use std::marker::Model;
 
@@ -23,44 +25,43 @@ pub(crate) enum Kept {
     Listed(Rows),
 }
 
+// Rows of a set alone, or rows that it shares with a table.
+#[derive(Drop)]
+pub(crate) enum Held {
+    Own(Kept),
+    Shared(List<Row>),
+}
+
 /// Rows of worlds, as bits or as lists, which contracts see as lists of numbers.
 #[derive(Drop)]
 pub struct RowSet {
-    kept: Kept,
+    held: Held,
 }
 
 impl Model for RowSet {
     ghost use Rattle.std.specs.Prelude.{List, ℕ};
-    ghost use Rattle.ep_kripke.specs.Kept.{kept_rows};
-    ghost use Rattle.ep_kripke.specs.Equivalence.{IsShared};
+    ghost use Rattle.ep_kripke.specs.RowSets.{held_rows};
 
     ghost Value = { List (List ℕ) };
 
-    ghost view = { λ s. kept_rows s.kept };
+    ghost view = { λ s. held_rows s.held };
 }
 
 impl RowSet {
     pub(crate) fn from_kept(kept: Kept) -> RowSet
         ensures { result ≡ kept_rows kept }
     {
-        RowSet { kept }
-    }
-
-    /// The places where the rows of a table are true.
-    pub fn from_table(table: BitTable) -> RowSet
-        ensures { result ≡ map members table.rows }
-    {
         RowSet {
-            kept: Kept::Packed(table),
+            held: Held::Own(kept),
         }
     }
 
-    /// The rows of a list.
-    pub fn from_lists(rows: Rows) -> RowSet
-        ensures { result ≡ rows }
+    // The numbers at which shared rows are true.
+    pub(crate) fn from_shared(rows: List<Row>) -> RowSet
+        ensures { result ≡ map members rows }
     {
         RowSet {
-            kept: Kept::Listed(rows),
+            held: Held::Shared(rows),
         }
     }
 
@@ -68,9 +69,10 @@ impl RowSet {
     pub fn len(&self) -> usize
         ensures { result ≡ length self.now }
     {
-        match &self.kept {
-            Kept::Packed(table) => table.len() as usize,
-            Kept::Listed(rows) => rows.len(),
+        match &self.held {
+            Held::Own(Kept::Packed(table)) => table.len() as usize,
+            Held::Own(Kept::Listed(rows)) => rows.len(),
+            Held::Shared(rows) => rows.as_slice().len(),
         }
     }
 
@@ -79,9 +81,10 @@ impl RowSet {
         requires { at < length self.now }
         ensures { OnOk result (out.new.items ≡ out.old.items ++ slice_index_or self.now at []) }
     {
-        match &self.kept {
-            Kept::Packed(table) => put_members(table, at, out),
-            Kept::Listed(rows) => Ok(out.extend_from_slice(rows.row(at as usize))?),
+        match &self.held {
+            Held::Own(Kept::Packed(table)) => put_members(table, at, out),
+            Held::Own(Kept::Listed(rows)) => Ok(out.extend_from_slice(rows.row(at as usize))?),
+            Held::Shared(rows) => rows.as_slice()[at as usize].put_members(out),
         }
     }
 
@@ -90,9 +93,10 @@ impl RowSet {
         requires { at < length self.now }
         ensures { result ≡ list_all (value_at set.now) (slice_index_or self.now at []) }
     {
-        match &self.kept {
-            Kept::Packed(table) => is_within(table, at, set),
-            Kept::Listed(rows) => is_true_at_all(rows.row(at as usize), set),
+        match &self.held {
+            Held::Own(Kept::Packed(table)) => is_within(table, at, set),
+            Held::Own(Kept::Listed(rows)) => is_true_at_all(rows.row(at as usize), set),
+            Held::Shared(rows) => rows.as_slice()[at as usize].is_within(set),
         }
     }
 
@@ -115,9 +119,10 @@ impl RowSet {
         requires rising { IsRising nat_cmp (slice_index_or self.now at []) }
         ensures { IsTrue result ↔ IsIn v (slice_index_or self.now at []) }
     {
-        match &self.kept {
-            Kept::Packed(table) => has_member(table, at, v),
-            Kept::Listed(rows) => finds(rows.row(at as usize), v),
+        match &self.held {
+            Held::Own(Kept::Packed(table)) => has_member(table, at, v),
+            Held::Own(Kept::Listed(rows)) => finds(rows.row(at as usize), v),
+            Held::Shared(rows) => rows.as_slice()[at as usize].has_member(v),
         }
     }
 
@@ -129,10 +134,51 @@ impl RowSet {
         requires within { AllByRecursion (λ v. v < length names.now) (slice_index_or self.now at []) }
         ensures { IsTrue result ↔ IsShared self.now names.now at }
     {
-        match &self.kept {
-            Kept::Packed(table) => bits_are_shared(table, at, names),
-            Kept::Listed(rows) => list_is_shared(rows, at, names),
+        match &self.held {
+            Held::Own(Kept::Packed(table)) => bits_are_shared(table, at, names),
+            Held::Own(Kept::Listed(rows)) => list_is_shared(rows, at, names),
+            Held::Shared(rows) => rows_are_shared(rows.as_slice(), at, names),
         }
+    }
+
+    // A row as a row of truth values over so many worlds.
+    pub(crate) fn row(&self, alloc: Global, at: u32, worlds: u32) -> Result<Row, OutOfMemory>
+        requires { at < length self.now }
+        ensures { IfOk result (λ row. row ≡ row_of worlds (slice_index_or self.now at [])) }
+    {
+        if let Some(words) = self.words(at, worlds) {
+            return Row::from_words(alloc, words, worlds);
+        }
+        let mut numbers = Vec::new(alloc);
+        self.put_row(at, &mut numbers)?;
+        let bits = Bits::from_places(alloc, worlds, &numbers)?;
+        Row::from_bits(alloc, &bits)
+    }
+
+    // The words of a row that is kept as bits of so many worlds.
+    fn words(&self, at: u32, worlds: u32) -> Option<&[u64]>
+        requires { at < length self.now }
+        ensures packed { IfSome result (λ words. IsPacked words.now worlds) }
+        ensures value { IfSome result (λ words. unpacked words.now worlds ≡ row_of worlds (slice_index_or self.now at [])) }
+    {
+        match &self.held {
+            Held::Own(Kept::Packed(table)) => words_of(table, at, worlds),
+            Held::Own(Kept::Listed(_)) => None,
+            Held::Shared(rows) => rows.as_slice()[at as usize].words_over(worlds),
+        }
+    }
+}
+
+fn words_of(table: &BitTable, r: u32, worlds: u32) -> Option<&[u64]>
+    requires { r < length table.now.rows }
+    ensures packed { IfSome result (λ words. IsPacked words.now worlds) }
+    ensures value { IfSome result (λ words. unpacked words.now worlds
+        ≡ row_of worlds (members (slice_index_or table.now.rows r []))) }
+{
+    if table.width() == worlds {
+        Some(table.row(r))
+    } else {
+        None
     }
 }
 
@@ -165,7 +211,7 @@ fn word_at(words: &[u64], i: usize) -> u64
 }
 
 // The value at a place, false past the end.
-fn bit_of(words: &[u64], v: u32) -> bool
+pub(crate) fn bit_of(words: &[u64], v: u32) -> bool
     ensures { result ≡ bit_in words.now v }
 {
     (word_at(words, (v / 64) as usize) >> (v % 64)) & 1 == 1

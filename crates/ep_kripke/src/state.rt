@@ -4,19 +4,25 @@ ghost use Rattle.std.specs.List.{AllByRecursion, list_all};
 ghost use Rattle.ep_logic.specs.Packed.{unpacked, IsPacked};
 ghost use Rattle.ep_logic.specs.Rows.{value_at};
 ghost use Rattle.ep_logic.specs.declared.limits.TheConstants.{MOST_AGENTS, MOST_ATOMS};
-ghost use Rattle.ep_kripke.specs.declared.limits.TheConstants.{MOST_WORLDS};
+ghost use Rattle.ep_kripke.specs.declared.limits.TheConstants.{MOST_PACKED, MOST_WORLDS};
 ghost use Rattle.ep_theory.specs.Rising.{IsIn, IsRising};
 ghost use Rattle.ep_theory.specs.Kripke.{Kripke, IsState, atom_at, truth_of, links_of, successors};
 ghost use Rattle.ep_theory.specs.Relations.{all_pairs};
 ghost use Rattle.ep_theory.specs.Equivalences.{IsEquivalence, IsS5};
 ghost use Rattle.ep_theory.specs.Fits.{link_count};
 ghost use Rattle.ep_kripke.specs.States.{IsBounded};
+ghost use Rattle.ep_kripke.specs.RowTables.{Keeps};
+ghost use Rattle.ep_kripke.specs.Interning.{IsKeyOf};
 ghost use Rattle.ep_kripke.specs.Parts.{world};
 
 use crate::build::{named_of, named_relations, relations_of, shared_truth};
+use crate::interning::{
+    InternedRelations, InternedState, intern_relations, key_of, truth_places, worlds_place,
+};
 use crate::parts::{StateError, StateParts, check};
 use crate::relation::Relation;
 use crate::row_set::finds;
+use crate::row_table::RowTable;
 use crate::rows::Rows;
 use ep_logic::{AgentId, AtomId, BitTable, Bits, List, OutOfMemory, WorldId};
 use std::alloc::Global;
@@ -361,6 +367,32 @@ impl State {
         ensures bounded { IsBounded self.now }
     {
         finds(self.designated(), w.n)
+    }
+
+    /// The same state made of the rows of a table, with the places that its rows have there. A refusal may leave new rows
+    /// in the table.
+    pub fn intern(&self, alloc: Global, table: &mut RowTable) -> Result<InternedState, OutOfMemory>
+        requires few { self.now.worlds ≤ MOST_PACKED }
+        ensures state { IfOk result (λ i. i.state ≡ self.now) }
+        ensures key { IfOk result (λ i. IsKeyOf table.new self.now i.key) }
+        ensures kept { Keeps table.old table.new }
+    {
+        let worlds = self.worlds();
+        let truth_rows = truth_places(alloc, &self.truth, table)?;
+        let InternedRelations { relations, places } = intern_relations(
+            alloc,
+            worlds,
+            self.relations.as_slice(),
+            table,
+        )?;
+        let last = worlds_place(alloc, worlds, self.designated(), table)?;
+        let numbers = [worlds as usize, self.agents as usize, self.atoms as usize];
+        let key = key_of(alloc, &numbers, &truth_rows, &places, last)?;
+        let truth = self.truth.clone()?;
+        let designated = Vec::from_slice(alloc, self.designated())?;
+        let designated = List::from_vec(designated);
+        let state = State::from_relations(self.agents, self.atoms, truth, relations, designated);
+        Ok(InternedState { state, key })
     }
 
     pub fn copy(&self, alloc: Global) -> Result<State, OutOfMemory>

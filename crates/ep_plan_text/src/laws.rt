@@ -2,7 +2,7 @@
 
 ghost use Rattle.std.specs.Prelude.{◌≡◌, ◌≢◌, ℕ, ◌<◌, ◌≤◌, List, All, AllPairs, length};
 ghost use Rattle.ep_bounds.specs.declared.bounds.Measure.{Measure};
-ghost use Rattle.ep_bounds.specs.declared.bounds.TheConstants.{MOST_ACTIONS};
+ghost use Rattle.ep_bounds.specs.declared.bounds.TheConstants.{MOST_BOUND};
 ghost use Rattle.ep_lex.specs.declared.limits.TheConstants.{MOST_BYTES};
 ghost use Rattle.ep_logic.specs.declared.ids.ActionId.{ActionId};
 ghost use Rattle.ep_ground.specs.Task.{GroundTask};
@@ -15,10 +15,10 @@ ghost use Rattle.ep_plan_text.specs.declared.read.PlanError.{PlanError};
 /// The text of a plan of a ground task, of no more actions than a search may be bounded to, is a plan file of the task
 /// with this plan, whatever the measure and the mark, and short enough to be read.
 pub fn a_plan_is_read_again()
-    ensures read { (g : GroundTask) (measure : Measure) (mark : Mark) (plan : List ActionId) → IsWhole g → length plan ≤ MOST_ACTIONS →
+    ensures read { (g : GroundTask) (measure : Measure) (mark : Mark) (plan : List ActionId) → IsWhole g → length plan ≤ MOST_BOUND →
         All (λ a. a.n < length g.actions) plan →
         IsPlan g (plan_text g measure mark plan) plan }
-    ensures short { (g : GroundTask) (measure : Measure) (mark : Mark) (plan : List ActionId) → IsWhole g → length plan ≤ MOST_ACTIONS →
+    ensures short { (g : GroundTask) (measure : Measure) (mark : Mark) (plan : List ActionId) → IsWhole g → length plan ≤ MOST_BOUND →
         All (λ a. a.n < length g.actions) plan →
         length (plan_text g measure mark plan) ≤ MOST_BYTES }
 {}

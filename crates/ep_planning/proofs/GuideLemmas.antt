@@ -4,7 +4,8 @@ use Rattle.std.proofs.lemmas.Option.{slice_get-get_or}
 use Rattle.std.proofs.lemmas.Grind.{get_or-set_at}
 use Rattle.std.proofs.lemmas.List.{length-set}
 use Rattle.ep_base.specs.Counts.{Rose}
-use Rattle.ep_bounds.specs.declared.bounds.Measure.TheVariants.{Length}
+use Rattle.ep_bounds.specs.declared.bounds.Bounds.{Bounds}
+use Rattle.ep_bounds.specs.declared.bounds.Measure.{Measure}
 use Rattle.ep_logic.specs.declared.ids.ActionId.{ActionId}
 use Rattle.ep_tree.specs.declared.tree.CallTree.{CallTree}
 use Rattle.ep_ground.specs.Task.{GroundTask}
@@ -30,15 +31,15 @@ no_calls : (g : GroundTask) (calls : List CallTree) → NameActions g calls [] �
 no_calls g [] h = refl
 no_calls g (c ∷ cs) h = absurd h
 
-empty_lists_none : (g : GroundTask) (m : Mark) → IsWhole g → ListsACall (plan_text g Length m []) → ⊥
-empty_lists_none g m w l =
+empty_lists_none : (g : GroundTask) (measure : Measure) (m : Mark) → IsWhole g → ListsACall (plan_text g measure m []) → ⊥
+empty_lists_none g measure m w l =
     let none : All (λ (a : ActionId). a.n < length g.actions) [] = λ k d below. absurd (omega (arith, below)) in
-    let here : IsPlan g (plan_text g Length m []) [] = read_again g Length m [] w (omega arith) none in
-    let same : here.tree ≡ l.tree = file_trees (plan_text g Length m []) here.found l.found here.tree l.tree here.file l.file in
+    let here : IsPlan g (plan_text g measure m []) [] = read_again g measure m [] w (omega arith) none in
+    let same : here.tree ≡ l.tree = file_trees (plan_text g measure m []) here.found l.found here.tree l.tree here.file l.file in
     l.lists (subst (λ t. t.calls ≡ []) same (no_calls g here.tree.calls here.plan_of.named))
 
-empty_plan_needs_none : (g : GroundTask) (m : Mark) (p : List ActionId) → IsWhole g → ListsACall (plan_text g Length m p) → p ≡ [] → ⊥
-empty_plan_needs_none g m p w l e = empty_lists_none g m w (subst (λ q. ListsACall (plan_text g Length m q)) e l)
+empty_plan_needs_none : (g : GroundTask) (measure : Measure) (m : Mark) (p : List ActionId) → IsWhole g → ListsACall (plan_text g measure m p) → p ≡ [] → ⊥
+empty_plan_needs_none g measure m p w l e = empty_lists_none g measure m w (subst (λ q. ListsACall (plan_text g measure m q)) e l)
 
 -- ---- answers of the search
 
@@ -46,17 +47,17 @@ pub no_guide_needs_none : AnswerNeeds NoSuchGuide → ⊥
 unfolding AnswerNeeds
 no_guide_needs_none n = absurd n
 
-found_was_asked : (g : GroundTask) (d : ℕ) (a : Found) (before after : ℕ) → IsWhole g → WasAsked d a before after → 1 ≤ d → AnswerNeeds (OfSearch (planned_of g d a)) → Rose before after
+found_was_asked : (g : GroundTask) (b : Bounds) (a : Found) (before after : ℕ) → IsWhole g → WasAsked b.bound a before after → 1 ≤ b.bound → AnswerNeeds (OfSearch (planned_of g b a)) → Rose before after
 unfolding AnswerNeeds
-found_was_asked g d (found.Shortest p) before after w asked some needs = asked (empty_plan_needs_none g mark.Least p w needs)
-found_was_asked g d (found.Found p) before after w asked some needs = asked (empty_plan_needs_none g mark.Found p w needs)
-found_was_asked g d found.NoneTo before after w asked some needs = asked some
-found_was_asked g d found.ManyStates before after w asked some needs = absurd needs
-found_was_asked g d (found.Wide p) before after w asked some needs = absurd needs
+found_was_asked g b (found.Least p) before after w asked some needs = asked (empty_plan_needs_none g b.measure mark.Least p w needs)
+found_was_asked g b (found.Found p) before after w asked some needs = asked (empty_plan_needs_none g b.measure mark.Found p w needs)
+found_was_asked g b found.NoneTo before after w asked some needs = asked some
+found_was_asked g b found.ManyStates before after w asked some needs = absurd needs
+found_was_asked g b (found.Wide p) before after w asked some needs = absurd needs
 
-pub search_was_asked : (g : GroundTask) (d : ℕ) (a : Found) (answer : Answer) (before after : ℕ) → IsWhole g → answer ≡ OfSearch (planned_of g d a)
-    → WasAsked d a before after → 1 ≤ d → AnswerNeeds answer → Rose before after
-search_was_asked g d a answer before after w e asked some needs = found_was_asked g d a before after w asked some (subst AnswerNeeds e needs)
+pub search_was_asked : (g : GroundTask) (b : Bounds) (a : Found) (answer : Answer) (before after : ℕ) → IsWhole g → answer ≡ OfSearch (planned_of g b a)
+    → WasAsked b.bound a before after → 1 ≤ b.bound → AnswerNeeds answer → Rose before after
+search_was_asked g b a answer before after w e asked some needs = found_was_asked g b a before after w asked some (subst AnswerNeeds e needs)
 
 -- the guide at the place is asked, and the others are as before
 pub asked_at : {G : Type 0} (count : G → ℕ) (old : List G) (place : ℕ) (before after : G) → place < length old → before ≡ slice_index_or old place before

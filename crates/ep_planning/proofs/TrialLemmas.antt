@@ -37,7 +37,7 @@ trial_is_short (suc (suc (suc (suc (suc (suc (suc (suc (suc n))))))))) h = absur
 
 planned_is_written : (p : Planned) → IsWritten (planned_status p) × (planned_status p ≢ done.ReadFault) × (planned_status p ≢ done.Usage)
 planned_is_written (planned.Plan text) = (tt, (λ e. cc), (λ e. cc))
-planned_is_written (planned.NoneTo d) = (tt, (λ e. cc), (λ e. cc))
+planned_is_written (planned.NoneTo m b) = (tt, (λ e. cc), (λ e. cc))
 planned_is_written planned.ManyStates = (tt, (λ e. cc), (λ e. cc))
 planned_is_written (planned.WideAfter n text) = (tt, (λ e. cc), (λ e. cc))
 

@@ -9,7 +9,6 @@ use Rattle.ep_search.specs.Allowed.{Allowed}
 use Rattle.ep_search.specs.declared.answer.Answer.{Answer as Found}
 use Rattle.ep_search.specs.declared.answer.Answer.TheVariants as found
 use Rattle.ep_bounds.specs.declared.bounds.Bounds.{Bounds}
-use Rattle.ep_bounds.specs.declared.bounds.Measure.TheVariants.{Length}
 use Rattle.ep_bounds.specs.declared.bounds.Mode.{Mode}
 use Rattle.ep_bounds.specs.declared.bounds.TheConstants.{MOST_PLAN_ACTIONS}
 use Rattle.ep_answer.specs.declared.answer.Answer.TheVariants.{OfSearch, NoSuchGuide}
@@ -18,13 +17,13 @@ use Rattle.ep_answer.specs.declared.planned.Planned.TheVariants as planned
 use Rattle.ep_reading.specs.PlanFile.{AreItsActions}
 use Rattle.ep_reading.specs.Served.{Outcome, answers}
 
--- what is told of an answer to depth d
-abbrev pub planned_of : GroundTask → ℕ → Found → Planned
-planned_of g d (found.Shortest p) = planned.Plan (plan_text g Length mark.Least p)
-planned_of g d (found.Found p) = planned.Plan (plan_text g Length mark.Found p)
-planned_of g d found.NoneTo = planned.NoneTo d
-planned_of g d found.ManyStates = planned.ManyStates
-planned_of g d (found.Wide p) = planned.WideAfter (length p) (lines (map (action_name g) p))
+-- what is reported of an answer within the bounds
+abbrev pub planned_of : GroundTask → Bounds → Found → Planned
+planned_of g b (found.Least p) = planned.Plan (plan_text g b.measure mark.Least p)
+planned_of g b (found.Found p) = planned.Plan (plan_text g b.measure mark.Found p)
+planned_of g b found.NoneTo = planned.NoneTo b.measure b.bound
+planned_of g b found.ManyStates = planned.ManyStates
+planned_of g b (found.Wide p) = planned.WideAfter (length p) (lines (map (action_name g) p))
 
 -- each action is the task's, and there are few enough to be printed
 abbrev pub IsPrintable : GroundTask → List ActionId → Type 0
@@ -32,7 +31,7 @@ IsPrintable g p = AreItsActions g p × (length p ≤ MOST_PLAN_ACTIONS)
 
 -- the plan of an answer is of the task's actions, and short enough to be printed
 abbrev pub HasItsActions : GroundTask → Found → Type 0
-HasItsActions g (found.Shortest p) = IsPrintable g p
+HasItsActions g (found.Least p) = IsPrintable g p
 HasItsActions g (found.Found p) = IsPrintable g p
 HasItsActions g found.NoneTo = ⊤
 HasItsActions g found.ManyStates = ⊤
@@ -41,7 +40,7 @@ HasItsActions g (found.Wide p) = AreItsActions g p
 -- an answer that the task allows, for the bounds and the mode
 unfoldable pub Plans : Bounds → Mode → GroundTask → Outcome → Type 0
 Plans bounds mode g outcome =
-    (answer : Found) × Allowed g.problem bounds.depth bounds.states bounds.worlds mode answer × (outcome ≡ answers (OfSearch (planned_of g bounds.depth answer)))
+    (answer : Found) × Allowed g.problem bounds mode answer × (outcome ≡ answers (OfSearch (planned_of g bounds answer)))
 
 -- a guide by its place, if there is one
 abbrev pub Guided : ℕ → ℕ → (Outcome → Type 0) → Outcome → Type 0

@@ -8,6 +8,8 @@ use Rattle.ep_plan.specs.declared.verdicts.Verdict.{Verdict}
 use Rattle.ep_search.specs.Allowed.{Allowed}
 use Rattle.ep_search.specs.declared.answer.Answer.{Answer as Found}
 use Rattle.ep_search.specs.declared.answer.Answer.TheVariants as found
+use Rattle.ep_bounds.specs.declared.bounds.Bounds.{Bounds}
+use Rattle.ep_bounds.specs.declared.bounds.Measure.TheVariants.{Length}
 use Rattle.ep_bounds.specs.declared.bounds.Mode.TheVariants as mode
 use Rattle.ep_answer.specs.declared.answer.Answer.TheVariants.{Tried}
 use Rattle.ep_answer.specs.declared.trial_text.Trial.{Trial}
@@ -16,12 +18,16 @@ use Rattle.ep_answer.specs.declared.trial_text.TrialEnd.TheVariants.{Solved, Ope
 use Rattle.ep_reading.specs.Served.{Outcome, answers}
 use Rattle.ep_planning.specs.Planning.{planned_of}
 
+-- n actions, 1,000 states and 256 worlds
+abbrev pub trial_bounds : ℕ → Bounds
+trial_bounds n = record { measure = Length; bound = n; states = 1000; worlds = 256 }
+
 -- how a trial ends: with the length of a shortest plan and the verdict on it, or with another answer
 abbrev pub TrialEnds : GroundTask → ℕ → Found → TrialEnd → Type 0
-TrialEnds g n (found.Shortest p) end = (v : Verdict) × IsVerdict g.problem p v × (end ≡ Solved (length p) v)
-TrialEnds g n answer end = end ≡ Open (planned_of g n answer)
+TrialEnds g n (found.Least p) end = (v : Verdict) × IsVerdict g.problem p v × (end ≡ Solved (length p) v)
+TrialEnds g n answer end = end ≡ Open (planned_of g (trial_bounds n) answer)
 
--- the worlds of the initial state and of its contraction, and an answer that the task allows for depth n, 1,000 states and 256 worlds
+-- the worlds of the initial state and of its contraction, and an answer that the task allows for n actions
 pub record IsTrial (n : ℕ) (g : GroundTask) (trial : Trial) : Type 0 where
   pub children : trial.children ≡ n
   pub worlds : trial.worlds ≡ g.problem.initial.worlds
@@ -29,7 +35,7 @@ pub record IsTrial (n : ℕ) (g : GroundTask) (trial : Trial) : Type 0 where
   pub contracts : Contracts g.problem.initial contraction
   pub contracted : trial.contracted ≡ contraction.worlds
   pub answer : Found
-  pub allowed : Allowed g.problem n 1000 256 mode.Prove answer
+  pub allowed : Allowed g.problem (trial_bounds n) mode.Prove answer
   pub ends : TrialEnds g n answer trial.end
 
 unfoldable pub Tries : ℕ → GroundTask → Outcome → Type 0

@@ -4,5 +4,5 @@
 mod plan;
 mod trial;
 
-pub use plan::guided_plan;
-pub use trial::guided_trial;
+pub use plan::plan_by_guide;
+pub use trial::try_by_guide;

@@ -13,38 +13,39 @@ ghost use Rattle.ep_reading.specs.Steps.{OnlyFile, Serves};
 ghost use Rattle.ep_answer.specs.declared.cause.Subject.TheVariants.{Task as OfTask};
 
 use ep_answer::{Answer, Planned, Stop};
-use ep_bounds::{Bounds, Measure, Mode};
+use ep_bounds::{Bounds, Mode};
 use ep_ground::{Problem, Task};
 use ep_guide::Guide;
 use ep_io::Library;
 use ep_logic::{OutOfMemory, Steps};
 use ep_plan_text::{Mark, print_actions, print_plan};
-use ep_reading::task_file;
+use ep_reading::read_task_file;
 use ep_search::{Answer as Found, search};
 use std::alloc::Global;
 use std::marker::Brand;
 use std::sync::ledger::{Blank, Ledger};
 
-/// What is told of an answer of the search to a depth.
-pub fn planned(
+/// What is reported of an answer of the search within the bounds.
+pub fn print_answer(
     alloc: Global,
     task: &Task,
-    depth: u32,
+    bounds: Bounds,
     found: &Found,
 ) -> Result<Planned, OutOfMemory>
     requires { HasItsActions task.now found.now }
-    ensures { IfOk result (λ planned. planned ≡ planned_of task.now depth found.now) }
+    ensures { IfOk result (λ planned. planned ≡ planned_of task.now bounds found.now) }
 {
+    let Bounds { measure, bound, .. } = bounds;
     match found {
-        Found::Shortest(plan) => {
-            let text = print_plan(alloc, task, plan, Mark::Least, Measure::Length)?;
+        Found::Least(plan) => {
+            let text = print_plan(alloc, task, plan, Mark::Least, measure)?;
             Ok(Planned::Plan(text))
         }
         Found::Found(plan) => {
-            let text = print_plan(alloc, task, plan, Mark::Found, Measure::Length)?;
+            let text = print_plan(alloc, task, plan, Mark::Found, measure)?;
             Ok(Planned::Plan(text))
         }
-        Found::NoneTo => Ok(Planned::NoneTo { depth }),
+        Found::NoneTo => Ok(Planned::NoneTo { measure, bound }),
         Found::ManyStates => Ok(Planned::ManyStates),
         Found::Wide(plan) => Ok(Planned::WideAfter {
             count: plan.as_slice().len(),
@@ -53,8 +54,8 @@ pub fn planned(
     }
 }
 
-// The search, on a counter of its own.
-fn searched<L: Ledger>(
+// Searches, on a counter of its own.
+fn search_on<L: Ledger>(
     alloc: Global,
     problem: &Problem,
     bounds: Bounds,
@@ -66,15 +67,15 @@ fn searched<L: Ledger>(
     requires name { blank.name ≡ L.name }
     requires parts { blank.parts ≡ L.parts }
     requires some { 0 < L.parts }
-    ensures allowed { IfOk result (Allowed problem.now bounds.depth bounds.states bounds.worlds mode) }
-    ensures asked { IfOk result (λ found. WasAsked bounds.depth found (asked guide.old) (asked guide.new)) }
+    ensures allowed { IfOk result (Allowed problem.now bounds mode) }
+    ensures asked { IfOk result (λ found. WasAsked bounds.bound found (asked guide.old) (asked guide.new)) }
 {
     let mut steps = Steps::<L>::new(blank);
     search(alloc, problem, bounds, mode, guide, &mut steps)
 }
 
-/// An answer of the search.
-pub fn counted(
+/// Searches for a plan.
+pub fn search_plan(
     alloc: Global,
     problem: &Problem,
     bounds: Bounds,
@@ -82,14 +83,14 @@ pub fn counted(
     guide: &mut Box<dyn Guide>,
 ) -> Result<Found, OutOfMemory>
     requires { IsBounds bounds }
-    ensures allowed { IfOk result (Allowed problem.now bounds.depth bounds.states bounds.worlds mode) }
-    ensures asked { IfOk result (λ found. WasAsked bounds.depth found (asked guide.old) (asked guide.new)) }
+    ensures allowed { IfOk result (Allowed problem.now bounds mode) }
+    ensures asked { IfOk result (λ found. WasAsked bounds.bound found (asked guide.old) (asked guide.new)) }
 {
-    searched::<Brand>(alloc, problem, bounds, mode, guide, Blank::new(1))
+    search_on::<Brand>(alloc, problem, bounds, mode, guide, Blank::new(1))
 }
 
 // The answer of planning within the bounds.
-fn answered(
+fn plan_task(
     alloc: Global,
     task: &Task,
     bounds: Bounds,
@@ -98,16 +99,16 @@ fn answered(
 ) -> Result<Answer, OutOfMemory>
     requires { IsBounds bounds }
     ensures plans { IfOk result (λ answer. Plans bounds mode task.now (answers answer)) }
-    ensures asked { IfOk result (λ answer. 1 ≤ bounds.depth → AnswerNeeds answer → Rose (asked guide.old) (asked guide.new)) }
+    ensures asked { IfOk result (λ answer. 1 ≤ bounds.bound → AnswerNeeds answer → Rose (asked guide.old) (asked guide.new)) }
 {
     task.known();
-    let found = counted(alloc, task.problem(), bounds, mode, guide)?;
-    let planned = planned(alloc, task, bounds.depth, &found)?;
+    let found = search_plan(alloc, task.problem(), bounds, mode, guide)?;
+    let planned = print_answer(alloc, task, bounds, &found)?;
     Ok(Answer::OfSearch(planned))
 }
 
 // The answer of planning for the task of a file.
-fn plan<L: Library>(
+fn plan_file<L: Library>(
     alloc: Global,
     files: &mut L,
     file: &str,
@@ -118,15 +119,15 @@ fn plan<L: Library>(
     requires { IsBounds bounds }
     ensures goes_on { GoesOn (L.library files.old) (L.library files.new) }
     ensures answer { Serves (λ held. TaskFile held file.now (Plans bounds mode)) (OnlyFile OfTask file.now) ⊥ (L.library files.old) (L.library files.new) result }
-    ensures asked { 1 ≤ bounds.depth → ResultNeeds result → Rose (asked guide.old) (asked guide.new) }
+    ensures asked { 1 ≤ bounds.bound → ResultNeeds result → Rose (asked guide.old) (asked guide.new) }
 {
-    let task = task_file(alloc, files, file)?;
-    let answer = answered(alloc, &task, bounds, mode, guide)?;
+    let task = read_task_file(alloc, files, file)?;
+    let answer = plan_task(alloc, &task, bounds, mode, guide)?;
     Ok(answer)
 }
 
 /// The answer of planning for the task of a file, with the guide at a place, if there is one.
-pub fn guided_plan<L: Library>(
+pub fn plan_by_guide<L: Library>(
     alloc: Global,
     files: &mut L,
     file: &str,
@@ -138,10 +139,10 @@ pub fn guided_plan<L: Library>(
     requires { IsBounds bounds }
     ensures goes_on { GoesOn (L.library files.old) (L.library files.new) }
     ensures answer { Serves (λ held. Guided (length guides.old.items) place (TaskFile held file.now (Plans bounds mode))) (OnlyFile OfTask file.now) (length guides.old.items ≤ place) (L.library files.old) (L.library files.new) result }
-    ensures asked { 1 ≤ bounds.depth → ResultNeeds result → WasAskedAt (λ g. asked g) guides.old.items guides.new.items place }
+    ensures asked { 1 ≤ bounds.bound → ResultNeeds result → WasAskedAt (λ g. asked g) guides.old.items guides.new.items place }
 {
     if place >= guides.len() {
         return Ok(Answer::NoSuchGuide);
     }
-    plan(alloc, files, file, bounds, mode, &mut guides[place])
+    plan_file(alloc, files, file, bounds, mode, &mut guides[place])
 }

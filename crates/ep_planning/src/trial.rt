@@ -7,46 +7,63 @@ ghost use Rattle.ep_theory.specs.Kripke.{Kripke};
 ghost use Rattle.ep_trial.specs.TrialText.{trial_text};
 ghost use Rattle.ep_planning.specs.Planning.{Guided};
 ghost use Rattle.ep_planning.specs.Planning.{HasItsActions};
-ghost use Rattle.ep_planning.specs.Trials.{IsTrial, TrialEnds, Tries};
+ghost use Rattle.ep_planning.specs.Trials.{IsTrial, TrialEnds, Tries, trial_bounds};
 ghost use Rattle.ep_reading.specs.Served.{TaskRead, answers};
 ghost use Rattle.ep_reading.specs.Steps.{Tells};
 
-use crate::plan::{counted, planned};
+use crate::plan::{print_answer, search_plan};
 use ep_answer::{Answer, Stop, Trial, TrialEnd};
 use ep_base::OutOfMemory;
-use ep_bounds::{Bounds, Mode};
+use ep_bounds::{Bounds, Measure, Mode};
 use ep_canon::contract;
 use ep_ground::Task;
 use ep_guide::Guide;
-use ep_reading::{read_task, verdict};
+use ep_reading::{judge, read_task};
 use ep_search::Answer as Found;
 use ep_trial::trial_text;
 use std::alloc::Global;
 
 // The number of worlds of the contraction of the initial state.
-fn contracted(alloc: Global, task: &Task) -> Result<u32, OutOfMemory>
+fn count_contracted(alloc: Global, task: &Task) -> Result<u32, OutOfMemory>
     ensures { IfOk result (λ n. (C : Kripke) × Contracts task.now.problem.initial C × (n ≡ C.worlds)) }
 {
     let canon = contract(alloc, task.problem().initial())?;
     Ok(canon.state().worlds())
 }
 
-fn end(alloc: Global, task: &Task, depth: u32, found: &Found) -> Result<TrialEnd, OutOfMemory>
-    requires depth { depth ≤ 8 }
-    requires actions { HasItsActions task.now found.now }
-    requires allowed { Allowed task.now.problem depth 1000 256 mode.Prove found.now }
-    ensures { IfOk result (TrialEnds task.now depth found.now) }
+// The bounds of a trial with so many children.
+fn bounds_of(children: u32) -> Bounds
+    ensures { result ≡ trial_bounds children }
 {
-    match found {
-        Found::Shortest(plan) => Ok(TrialEnd::Solved {
-            length: plan.as_slice().len() as u64,
-            verdict: verdict(alloc, task, plan)?,
-        }),
-        _ => Ok(TrialEnd::Open(planned(alloc, task, depth, found)?)),
+    Bounds {
+        measure: Measure::Length,
+        bound: children,
+        states: 1000,
+        worlds: 256,
     }
 }
 
-fn tried(
+fn end_trial(
+    alloc: Global,
+    task: &Task,
+    children: u32,
+    found: &Found,
+) -> Result<TrialEnd, OutOfMemory>
+    requires children { children ≤ 8 }
+    requires actions { HasItsActions task.now found.now }
+    requires allowed { Allowed task.now.problem (trial_bounds children) mode.Prove found.now }
+    ensures { IfOk result (TrialEnds task.now children found.now) }
+{
+    match found {
+        Found::Least(plan) => Ok(TrialEnd::Solved {
+            length: plan.as_slice().len() as u64,
+            verdict: judge(alloc, task, plan)?,
+        }),
+        _ => Ok(TrialEnd::Open(print_answer(alloc, task, bounds_of(children), found)?)),
+    }
+}
+
+fn try_task(
     alloc: Global,
     task: &Task,
     children: u32,
@@ -56,33 +73,34 @@ fn tried(
     ensures { IfOk result (IsTrial children task.now) }
 {
     task.known();
-    let bounds = Bounds {
-        depth: children,
-        states: 1000,
-        worlds: 256,
-    };
-    let contracted = contracted(alloc, task)?;
-    let found = counted(alloc, task.problem(), bounds, Mode::Prove, guide)?;
+    let contracted = count_contracted(alloc, task)?;
+    let found = search_plan(
+        alloc,
+        task.problem(),
+        bounds_of(children),
+        Mode::Prove,
+        guide,
+    )?;
     Ok(Trial {
         children,
         worlds: task.initial().worlds(),
         contracted,
-        end: end(alloc, task, children, &found)?,
+        end: end_trial(alloc, task, children, &found)?,
     })
 }
 
-fn trial(alloc: Global, children: u32, guide: &mut Box<dyn Guide>) -> Result<Answer, Stop>
+fn run_trial(alloc: Global, children: u32, guide: &mut Box<dyn Guide>) -> Result<Answer, Stop>
     requires { children ≤ 8 }
     ensures { Tells (TaskRead (trial_text children) (Tries children)) result }
 {
     let text = trial_text(alloc, children)?;
     let task = read_task(alloc, text.as_slice())?;
-    let trial = tried(alloc, &task, children, guide)?;
+    let trial = try_task(alloc, &task, children, guide)?;
     Ok(Answer::Tried(trial))
 }
 
 /// The trial with so many children, by the first guide, if there is one.
-pub fn guided_trial(
+pub fn try_by_guide(
     alloc: Global,
     children: u32,
     guides: &mut Vec<Box<dyn Guide>>,
@@ -93,5 +111,5 @@ pub fn guided_trial(
     if guides.len() == 0 {
         return Ok(Answer::NoSuchGuide);
     }
-    trial(alloc, children, &mut guides[0])
+    run_trial(alloc, children, &mut guides[0])
 }

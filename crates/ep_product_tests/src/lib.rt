@@ -4,6 +4,8 @@
 #[cfg(test)]
 mod doubling;
 #[cfg(test)]
+mod labels;
+#[cfg(test)]
 mod made;
 #[cfg(test)]
 mod products;

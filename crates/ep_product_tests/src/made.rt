@@ -7,7 +7,7 @@ use ep_kripke::{Link, State, StateParts};
 use ep_logic::{
     AgentId, Agents, AtomId, Bits, EventId, Formula, List, OutOfMemory, Steps, WorldId,
 };
-use ep_update::{Size, UpdateError, fits_action, product};
+use ep_update::{Size, UpdateError, fits_action, labels, product, product_labelled};
 use std::alloc::Global;
 use std::marker::Brand;
 use std::process::Abort;
@@ -208,4 +208,34 @@ pub fn outcome(
     size: Size,
 ) -> Result<State, UpdateError> {
     counted::<Brand>(rt, alloc, s, a, size, Blank::new(1))
+}
+
+fn counted_labelled<L: Ledger>(
+    rt: &impl Abort,
+    alloc: Global,
+    s: &State,
+    a: &Action,
+    size: Size,
+    blank: Blank,
+) -> Result<State, UpdateError>
+    requires name { blank.name ≡ L.name }
+    requires parts { blank.parts ≡ L.parts }
+    requires some { 0 < L.parts }
+{
+    assert!(rt; fits_action(s, a));
+    assert!(rt; size.worlds <= 65_536 && size.links < 1 << 32);
+    let mut steps = Steps::<L>::new(blank);
+    let l = labels(alloc, s, a)?;
+    product_labelled(alloc, s, a, &l, size, &mut steps)
+}
+
+/// The same by labels that are handed in.
+pub fn outcome_labelled(
+    rt: &impl Abort,
+    alloc: Global,
+    s: &State,
+    a: &Action,
+    size: Size,
+) -> Result<State, UpdateError> {
+    counted_labelled::<Brand>(rt, alloc, s, a, size, Blank::new(1))
 }

@@ -2,7 +2,9 @@
 
 ghost use Rattle.std.specs.Prelude.{◌<◌};
 
-use crate::made::{ALL, ANN, COIN, Given, HEADS, WIDE, outcome, sense, state, two_events};
+use crate::made::{
+    ALL, ANN, COIN, Given, HEADS, WIDE, outcome, outcome_labelled, sense, state, two_events,
+};
 use ep_event::{Action, Assign};
 use ep_kripke::State;
 use ep_logic::{AgentId, Agents, AtomId, Formula, List, OutOfMemory, WorldId};
@@ -52,6 +54,8 @@ fn check_product(
     let t = outcome(rt, alloc, &s, a, WIDE)?;
     let want = state(rt, alloc, to)?;
     check_same(rt, alloc, &t, &want)?;
+    let u = outcome_labelled(rt, alloc, &s, a, WIDE)?;
+    check_same(rt, alloc, &u, &want)?;
     Ok(())
 }
 

@@ -4,7 +4,7 @@ use Rattle.hex.specs.Hex.{encode_lower}
 use Rattle.ep_logic.specs.declared.ids.ActionId.{ActionId}
 use Rattle.ep_theory.specs.Kripke.{Kripke}
 use Rattle.ep_theory.proofs.CallerLemmas.{one_contraction}
-use Rattle.ep_canon.specs.Bytes.{bytes_of}
+use Rattle.ep_bytes.specs.Bytes.{bytes_of}
 use Rattle.ep_ground.specs.Task.{GroundTask}
 use Rattle.ep_ground.specs.StateText.{state_text}
 use Rattle.ep_plan.specs.Runs.{RunUnder}

@@ -15,7 +15,7 @@ use Rattle.ep_reading.specs.Served.{Answers, answers}
 use Rattle.ep_reading.proofs.CallerLemmas.{IsBehind, other_is_behind, answers_are, formula_is_behind, ran_is_behind}
 use Rattle.hex.specs.Hex.{encode_lower}
 use Rattle.ep_theory.specs.Canonical.{Contracts}
-use Rattle.ep_canon.specs.Bytes.{bytes_of}
+use Rattle.ep_bytes.specs.Bytes.{bytes_of}
 use Rattle.ep_ground.specs.StateText.{state_text}
 use Rattle.ep_plan.specs.Verdicts.{IsVerdict}
 use Rattle.ep_question.specs.declared.question.Question.{Question}

@@ -6,7 +6,7 @@ use Rattle.ep_logic.specs.declared.ids.ActionId.{ActionId}
 use Rattle.ep_theory.specs.Canonical.{Contracts}
 use Rattle.ep_theory.specs.Kripke.{Kripke}
 use Rattle.ep_theory.specs.Tested.{is_true}
-use Rattle.ep_canon.specs.Bytes.{bytes_of}
+use Rattle.ep_bytes.specs.Bytes.{bytes_of}
 use Rattle.ep_ground.specs.Task.{GroundTask}
 use Rattle.ep_ground.specs.StateText.{state_text}
 use Rattle.ep_plan.specs.Verdicts.{IsVerdict}

@@ -35,7 +35,7 @@ pub fn fetch_file<L: Library>(
 }
 
 /// The ground task of a file.
-pub fn task_file<L: Library>(alloc: Global, files: &mut L, name: &str) -> Result<Task, Stop>
+pub fn read_task_file<L: Library>(alloc: Global, files: &mut L, name: &str) -> Result<Task, Stop>
     ensures goes_on { GoesOn (L.library files.old) (L.library files.new) }
     ensures task { MatchResult result
         (IsTaskFile (L.library files.old) name.now)

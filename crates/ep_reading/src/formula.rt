@@ -31,7 +31,7 @@ fn formula_text(alloc: Global, text: &[u8]) -> Result<ParsedText<FormulaTree>, S
     }
 }
 
-fn formed(
+fn form_formula(
     alloc: Global,
     task: &Task,
     found: &TokenList,
@@ -61,11 +61,11 @@ fn read_formula(alloc: Global, task: &Task, text: &[u8]) -> Result<Formula, Stop
     ensures { MatchResult result (IsFormulaOf task.now text.now) (StopsBy (FormulaRead task.now text.now nothing_behind)) }
 {
     let parsed = formula_text(alloc, text)?;
-    formed(alloc, task, &parsed.tokens, &parsed.tree)
+    form_formula(alloc, task, &parsed.tokens, &parsed.tree)
 }
 
 /// The formula of a word, over the names of a task.
-pub fn formula_word(alloc: Global, task: &Task, word: &str) -> Result<Formula, Stop>
+pub fn read_formula_word(alloc: Global, task: &Task, word: &str) -> Result<Formula, Stop>
     ensures { MatchResult result (IsFormulaOf task.now word.now) (StopsBy (FormulaWord task.now word.now nothing_behind)) }
 {
     if word.len() > MOST_BYTES as usize {

@@ -7,8 +7,8 @@ mod plans;
 mod read;
 mod runs;
 
-pub use files::{fetch_file, task_file};
-pub use formula::formula_word;
-pub use plans::plan_file;
+pub use files::{fetch_file, read_task_file};
+pub use formula::read_formula_word;
+pub use plans::read_plan_file;
 pub use read::read_task;
-pub use runs::{ran, verdict};
+pub use runs::{judge, run_to_end};

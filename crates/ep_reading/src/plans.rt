@@ -45,7 +45,7 @@ fn read_plan(alloc: Global, subject: Subject, task: &Task, bytes: &[u8]) -> Resu
 }
 
 /// The plan of a word: `-` is the empty plan, and any other word names a plan file of the task.
-pub fn plan_file<L: Library>(
+pub fn read_plan_file<L: Library>(
     alloc: Global,
     files: &mut L,
     subject: Subject,

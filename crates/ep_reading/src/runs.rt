@@ -28,7 +28,7 @@ const RUN_SIZE: Size = Size {
 };
 
 // The run, on a counter of its own.
-fn run_on<L: Ledger>(
+fn run_counting<L: Ledger>(
     alloc: Global,
     problem: &Problem,
     plan: &Plan,
@@ -45,35 +45,35 @@ fn run_on<L: Ledger>(
     run_plan(alloc, problem, plan, RUN_SIZE, &mut steps)
 }
 
-fn run(alloc: Global, problem: &Problem, plan: &Plan) -> Result<Outcome, OutOfMemory>
+fn run_within(alloc: Global, problem: &Problem, plan: &Plan) -> Result<Outcome, OutOfMemory>
     requires length { length plan.now ≤ MOST_TOKENS }
     requires actions { AreOf problem.now plan.now }
     ensures { IfOk result (RunUnder problem.now plan.now run_size) }
 {
-    run_on::<Brand>(alloc, problem, plan, Blank::new(1))
+    run_counting::<Brand>(alloc, problem, plan, Blank::new(1))
 }
 
-fn stopped(whose: Whose, stop: RunStop) -> Stop
+fn stop_of_run(whose: Whose, stop: RunStop) -> Stop
     ensures { result ≡ Stop.Told (Answer.Stopped whose stop) }
 {
     Stop::Told(Answer::Stopped(whose, stop))
 }
 
 /// The state that the plan leaves.
-pub fn ran(alloc: Global, task: &Task, whose: Whose, plan: &Plan) -> Result<State, Stop>
+pub fn run_to_end(alloc: Global, task: &Task, whose: Whose, plan: &Plan) -> Result<State, Stop>
     requires length { length plan.now ≤ MOST_TOKENS }
     requires actions { AreItsActions task.now plan.now }
     ensures { MatchResult result (IsLeft task.now plan.now) (StopsBy (Ran whose task.now plan.now nothing_behind)) }
 {
     task.known();
-    match run(alloc, task.problem(), plan)? {
+    match run_within(alloc, task.problem(), plan)? {
         Outcome::After(state) => Ok(state),
-        Outcome::Stuck { step } => Err(stopped(whose, RunStop::Stuck { step })),
+        Outcome::Stuck { step } => Err(stop_of_run(whose, RunStop::Stuck { step })),
         Outcome::SpentWorlds { step, worlds } => {
-            Err(stopped(whose, RunStop::SpentWorlds { step, worlds }))
+            Err(stop_of_run(whose, RunStop::SpentWorlds { step, worlds }))
         }
         Outcome::SpentLinks { step, links } => {
-            Err(stopped(whose, RunStop::SpentLinks { step, links }))
+            Err(stop_of_run(whose, RunStop::SpentLinks { step, links }))
         }
     }
 }
@@ -81,7 +81,7 @@ pub fn ran(alloc: Global, task: &Task, whose: Whose, plan: &Plan) -> Result<Stat
 // ---- verdicts
 
 // The verdict, on a counter of its own.
-fn verdict_on<L: Ledger>(
+fn judge_counting<L: Ledger>(
     alloc: Global,
     problem: &Problem,
     plan: &Plan,
@@ -99,11 +99,11 @@ fn verdict_on<L: Ledger>(
 }
 
 /// The verdict on a plan of a task.
-pub fn verdict(alloc: Global, task: &Task, plan: &Plan) -> Result<Verdict, OutOfMemory>
+pub fn judge(alloc: Global, task: &Task, plan: &Plan) -> Result<Verdict, OutOfMemory>
     requires length { length plan.now ≤ MOST_TOKENS }
     requires actions { AreItsActions task.now plan.now }
     ensures { IfOk result (IsVerdict task.now.problem plan.now) }
 {
     task.known();
-    verdict_on::<Brand>(alloc, task.problem(), plan, Blank::new(1))
+    judge_counting::<Brand>(alloc, task.problem(), plan, Blank::new(1))
 }

@@ -31,7 +31,7 @@ first_more S w i targets a b c o p q e f g =
     (marks_both (TargetOfFirst S w i) (λ v. IsIn v targets) a b c o p q f g)
 
 -- an agent past the last has no links
-linked_agent : (S : Kripke) → IsState S → (a w v : ℕ) → IsIn (w, v) (links_of S a) → a < S.agents
+pub linked_agent : (S : Kripke) → IsState S → (a w v : ℕ) → IsIn (w, v) (links_of S a) → a < S.agents
 linked_agent S s a w v i = ⊎_elim
     (λ (l : a < length S.links). let q = s.relations in omega arith)
     (λ (g : length S.links ≤ a). absurd (subst (λ (ps : List (ℕ × ℕ)). IsIn (w, v) ps) (get_or-eq_default S.links [] g) i))

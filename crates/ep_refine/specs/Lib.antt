@@ -1,5 +1,12 @@
 pub mod Numbering
 pub mod Marking
+pub mod Columns
 pub mod Signing
 pub mod Choices
 pub mod Kept
+pub mod Bound
+pub mod Blocks
+pub mod Groups
+pub mod Touching
+pub mod Backward
+pub mod Rounds

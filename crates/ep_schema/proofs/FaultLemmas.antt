@@ -1,6 +1,6 @@
 -- The first action that assigns to one atom twice, block by block.
-use Rattle.std.proofs.Common.{◌≡◌, ℕ, zero, suc, ◌+◌, ◌<◌, Bool, true, false, cond, Option, Some, None, Result, Ok, Err, IfErr, List, [], ◌∷◌, ◌++◌, length, map, take, get_or, refl, ap, sym, ◌∙◌, subst, arith}
-use Rattle.std.specs.List.{flat_map}
+use Rattle.std.proofs.Common.{◌≡◌, ℕ, zero, suc, ◌+◌, ◌<◌, Bool, true, false, cond, Option, Some, None, option_map, Result, Ok, Err, IfErr, List, [], ◌∷◌, ◌++◌, length, map, take, get_or, refl, ap, sym, ◌∙◌, subst, arith}
+use Rattle.std.specs.List.{flat_map, find, zip}
 use Rattle.std.specs.Prelude.{IsErrAnd}
 use Rattle.std.proofs.lemmas.List.{length-map, length-append}
 use Rattle.std.proofs.lemmas.Option.{none-some}
@@ -25,6 +25,17 @@ row-some : {X : Type 0} (t : Bool) (x e : X) (rest : Option X) → cond t (Some 
 row-some true x e rest h = h
 row-some false x e rest h = absurd (none-some e h)
 
+-- ---- the first action, and the others
+
+first_twice : (n : Text) (x : EventModel) (rest : Option (Text × EventModel)) (t : Bool)
+    → option_map (λ y. fault.AtomTwice y.0) (cond t (Some (n, x)) rest) ≡ cond t (Some (fault.AtomTwice n)) (option_map (λ y. fault.AtomTwice y.0) rest)
+first_twice n x rest true = refl
+first_twice n x rest false = refl
+
+pub twice-cons : (n : Text) (ns : List Text) (x : EventModel) (xs : List EventModel)
+    → atom_twice (n ∷ ns) (x ∷ xs) ≡ cond (assigns_twice x) (Some (fault.AtomTwice n)) (atom_twice ns xs)
+twice-cons n ns x xs = first_twice n x (find (λ y. assigns_twice y.1) (zip ns xs)) (assigns_twice x)
+
 -- ---- two blocks
 
 pub twice-append : (ns ms : List Text) (xs ys : List EventModel) → length ns ≡ length xs → atom_twice ns xs ≡ None → atom_twice (ns ++ ms) (xs ++ ys) ≡ atom_twice ms ys
@@ -32,14 +43,16 @@ twice-append [] ms [] ys l h = refl
 twice-append [] ms (x ∷ xs) ys l h = absurd (omega arith)
 twice-append (n ∷ ns) ms [] ys l h = absurd (omega arith)
 twice-append (n ∷ ns) ms (x ∷ xs) ys l h =
-    let r = row-none (assigns_twice x) (fault.AtomTwice n) (atom_twice ns xs) h in
-    ap (λ t. cond t (Some (fault.AtomTwice n)) (atom_twice (ns ++ ms) (xs ++ ys))) r.0
+    let r = row-none (assigns_twice x) (fault.AtomTwice n) (atom_twice ns xs) (sym (twice-cons n ns x xs) ∙ h) in
+    twice-cons n (ns ++ ms) x (xs ++ ys)
+    ∙ ap (λ t. cond t (Some (fault.AtomTwice n)) (atom_twice (ns ++ ms) (xs ++ ys))) r.0
     ∙ twice-append ns ms xs ys (omega arith) r.1
 
 pub twice-left : (ns ms : List Text) (xs ys : List EventModel) (e : SchemaError) → length ns ≡ length xs → atom_twice ns xs ≡ Some e → atom_twice (ns ++ ms) (xs ++ ys) ≡ Some e
 twice-left [] ms xs ys e l h = absurd (none-some e h)
-twice-left (n ∷ ns) ms [] ys e l h = absurd (none-some e h)
-twice-left (n ∷ ns) ms (x ∷ xs) ys e l h = by (assigns_twice x) (twice-left ns ms xs ys e (omega arith)) h
+twice-left (n ∷ ns) ms [] ys e l h = absurd (omega (arith, l))
+twice-left (n ∷ ns) ms (x ∷ xs) ys e l h =
+    twice-cons n (ns ++ ms) x (xs ++ ys) ∙ by (assigns_twice x) (twice-left ns ms xs ys e (omega arith)) (sym (twice-cons n ns x xs) ∙ h)
   where
     by : (t : Bool) → (atom_twice ns xs ≡ Some e → atom_twice (ns ++ ms) (xs ++ ys) ≡ Some e) → cond t (Some (fault.AtomTwice n)) (atom_twice ns xs) ≡ Some e → cond t (Some (fault.AtomTwice n)) (atom_twice (ns ++ ms) (xs ++ ys)) ≡ Some e
     by true f k = k
@@ -50,9 +63,9 @@ twice-both [] ms [] ys l h = (refl, h)
 twice-both [] ms (x ∷ xs) ys l h = absurd (omega arith)
 twice-both (n ∷ ns) ms [] ys l h = absurd (omega arith)
 twice-both (n ∷ ns) ms (x ∷ xs) ys l h =
-    let r = row-none (assigns_twice x) (fault.AtomTwice n) (atom_twice (ns ++ ms) (xs ++ ys)) h in
+    let r = row-none (assigns_twice x) (fault.AtomTwice n) (atom_twice (ns ++ ms) (xs ++ ys)) (sym (twice-cons n (ns ++ ms) x (xs ++ ys)) ∙ h) in
     let s = twice-both ns ms xs ys (omega arith) r.1 in
-    (ap (λ t. cond t (Some (fault.AtomTwice n)) (atom_twice ns xs)) r.0 ∙ s.0, s.1)
+    (twice-cons n ns x xs ∙ ap (λ t. cond t (Some (fault.AtomTwice n)) (atom_twice ns xs)) r.0 ∙ s.0, s.1)
 
 -- ---- one action more
 
@@ -70,11 +83,14 @@ module _ {X : Type 0} (name : X → Text) (act : X → EventModel) where
       atom_twice (map name xs) (map act xs) ≡ Some e
   some_here [] i x e l here h k = absurd (omega arith)
   some_here (y ∷ ys) zero x e l here h k =
-      row-some (assigns_twice (act y)) (fault.AtomTwice (name y)) e (atom_twice (map name ys) (map act ys))
-      (subst (λ z. atom_twice (name z ∷ []) (act z ∷ []) ≡ Some e) here k)
+      twice-cons (name y) (map name ys) (act y) (map act ys)
+      ∙ row-some (assigns_twice (act y)) (fault.AtomTwice (name y)) e (atom_twice (map name ys) (map act ys))
+      (sym (twice-cons (name y) [] (act y) []) ∙ subst (λ z. atom_twice (name z ∷ []) (act z ∷ []) ≡ Some e) here k)
   some_here (y ∷ ys) (suc i) x e l here h k =
-      let r = row-none (assigns_twice (act y)) (fault.AtomTwice (name y)) (atom_twice (map name (take i ys)) (map act (take i ys))) h in
-      ap (λ t. cond t (Some (fault.AtomTwice (name y))) (atom_twice (map name ys) (map act ys))) r.0
+      let r = row-none (assigns_twice (act y)) (fault.AtomTwice (name y)) (atom_twice (map name (take i ys)) (map act (take i ys)))
+      (sym (twice-cons (name y) (map name (take i ys)) (act y) (map act (take i ys))) ∙ h) in
+      twice-cons (name y) (map name ys) (act y) (map act ys)
+      ∙ ap (λ t. cond t (Some (fault.AtomTwice (name y))) (atom_twice (map name ys) (map act ys))) r.0
       ∙ some_here ys i x e (omega arith) here r.1 k
 
 -- ---- one block more

@@ -4,6 +4,7 @@ pub mod SizeLemmas
 pub mod GoalLemmas
 pub mod PartLemmas
 pub mod AfterLemmas
+pub mod TollLemmas
 pub mod PathLemmas
 pub mod CoverLemmas
 pub mod ManyLemmas
@@ -15,3 +16,4 @@ pub mod ExpandLemmas
 pub mod RunLemmas
 pub mod KeptLemmas
 pub mod StartLemmas
+pub mod ClosedStore

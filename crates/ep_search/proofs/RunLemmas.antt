@@ -1,39 +1,49 @@
 -- What stands while entries are popped.
 use Rattle.std.proofs.Common.{◌≡◌, ◌≢◌, ℕ, zero, suc, ◌+◌, ◌-◌, ◌*◌, ◌<◌, ◌≤◌, ◌⊎◌, inl, inr, List, [], ◌∷◌, set, length, slice_get, get_or, Some, None, refl, sym, ap, ◌∙◌, subst, arith}
 use Rattle.std.proofs.Math.Nat.{mul-le-mul_left, mul_comm}
+use Rattle.std.proofs.lemmas.Bool.{cases_lt}
+use Rattle.std.proofs.lemmas.Option.{slice_get_past}
 use Rattle.std.proofs.lemmas.List.{length-set}
 use Rattle.std.proofs.lemmas.List.Sums.{sum_by-set, sum_by-append}
 use Rattle.ep_logic.specs.declared.ids.ActionId.{ActionId}
 use Rattle.ep_logic.specs.declared.ids.StateId.{StateId}
-use Rattle.ep_theory.specs.PlanningTask.{PlanningTask}
-use Rattle.ep_theory.specs.Plans.{Reaches}
+use Rattle.ep_theory.specs.PlanningTask.{PlanningTask, IsPlanningTask}
+use Rattle.ep_theory.specs.Plans.{weight, Reaches}
 use Rattle.ep_guide.specs.declared.frontier.Waiting.{Waiting}
 use Rattle.ep_store.specs.declared.entry.Entry.{Entry}
 use Rattle.ep_store.specs.Stored.{Has}
 use Rattle.ep_search.specs.declared.progress.Progress.{Progress}
-use Rattle.ep_search.specs.Allowed.{IsShortest, NoneWithin}
-use Rattle.ep_search.specs.Sound.{IsBest, late}
-use Rattle.ep_search.specs.Progresses.{Keeps, Waits, IsCovered, IsClosed, CoversBut, CoversAll, spent}
+use Rattle.ep_search.specs.Allowed.{IsLeast, NoneWithin}
+use Rattle.ep_search.specs.Sound.{IsBest, Settled, refused, far, late}
+use Rattle.ep_search.specs.Progresses.{Keeps, Waits, IsCovered, IsSettled, CoversBut, CoversAll, spent}
 use Rattle.ep_search.proofs.SoundLemmas.{same_place}
-use Rattle.ep_search.proofs.CoverLemmas.{none_shorter}
+use Rattle.ep_search.proofs.CoverLemmas.{none_less}
+use Rattle.ep_search.proofs.LeadLemmas.{refuses_past}
+use Rattle.ep_search.proofs.TollLemmas.{toll_some}
 use Rattle.ep_bounds.specs.declared.bounds.Bounds.{Bounds}
-use Rattle.ep_bounds.specs.declared.bounds.Mode.{Mode}
-use Rattle.ep_bounds.specs.declared.bounds.Mode.TheVariants as mode
 
 abbrev pub with_frontier : Progress → List Waiting → Progress
 with_frontier p fr = record { store = p.store; frontier = fr; expanded = p.expanded; best = p.best; least = p.least }
+
+-- where the best plan measures at most 1 more than the entry, no action of the entry leads to a better one
+past_best : (T : PlanningTask) → IsPlanningTask T → (b : Bounds) (es : List Entry) (least : ℕ) (e : Entry) → least ≤ e.weight + 1 → (a : ActionId) → Settled T b es least e.canon e.weight a
+past_best T t b es least e le a = by (cases_lt a.n (length T.actions))
+  where
+    by : (a.n < length T.actions) ⊎ (length T.actions ≤ a.n) → Settled T b es least e.canon e.weight a
+    by (inl lt) = late (omega (arith, le, toll_some T t b.measure a lt))
+    by (inr ge) = refused (refuses_past T e.canon a (slice_get_past T.actions a.n ge))
 
 module _ (T : PlanningTask) (b : Bounds) (p : Progress) (w : Waiting) (fr : List Waiting) (id : StateId) (pops : p.frontier ≡ w ∷ fr) (is : w.id ≡ id) (k : Keeps T b p) (all : CoversAll T b p) where
   still : (i : ℕ) → Waits fr i → Waits p.frontier i
   still i h = subst (λ xs. Waits xs i) (sym pops) (inr h)
 
-  pub popped : Has p.store.entries id.n (λ e. e.depth < b.depth)
+  pub popped : Has p.store.entries id.n (λ e. e.weight < b.bound)
   popped = k.waiting id.n (subst (λ xs. Waits xs id.n) (sym pops) (inl (ap (λ (i : StateId). i.n) is)))
 
   pub keeps_popped : Keeps T b (with_frontier p fr)
   keeps_popped = record { sound = k.sound; best = k.best; limit = k.limit; room = k.room; marks = k.marks; low = k.low; high = k.high; waiting = λ i h. k.waiting i (still i h) }
 
-  others : (i : ℕ) (e : Entry) → (i ≡ id.n → ⊥) → Waits (w ∷ fr) i ⊎ IsClosed T p e → Waits fr i ⊎ IsClosed T (with_frontier p fr) e
+  others : (i : ℕ) (e : Entry) → (i ≡ id.n → ⊥) → Waits (w ∷ fr) i ⊎ IsSettled T b p e → Waits fr i ⊎ IsSettled T b (with_frontier p fr) e
   others i e ne (inl (inl h)) = absurd (ne (sym h ∙ ap (λ (j : StateId). j.n) is))
   others i e ne (inl (inr h)) = inl h
   others i e ne (inr h) = inr h
@@ -41,29 +51,40 @@ module _ (T : PlanningTask) (b : Bounds) (p : Progress) (w : Waiting) (fr : List
   pub but_popped : CoversBut T b (with_frontier p fr) id.n
   but_popped i e at ne =
       let was = all i e at in
-      record { waits = λ lt. others i e ne (subst (λ xs. Waits xs i ⊎ IsClosed T p e) pops (was.waits lt)); marked = λ lt le a. was.marked lt le a }
+      record { waits = λ lt. others i e ne (subst (λ xs. Waits xs i ⊎ IsSettled T b p e) pops (was.waits lt)); marked = λ lt le a. was.marked lt le a }
 
-  -- an entry that is passed over is closed
-  pub passed : ((e : Entry) → slice_get p.store.entries id.n ≡ Some e → (get_or p.expanded.items id.n 0 ≤ e.depth) ⊎ (p.least ≤ e.depth + 1)) → CoversAll T b (with_frontier p fr)
-  passed why i e at = by (same_place i id.n)
+  -- an entry that is passed over is settled
+  pub passed : IsPlanningTask T → ((e : Entry) → slice_get p.store.entries id.n ≡ Some e → (get_or p.expanded.items id.n 0 ≤ e.weight) ⊎ (p.least ≤ e.weight + 1)) → CoversAll T b (with_frontier p fr)
+  passed t why i e at = by (same_place i id.n)
     where
-      closed : slice_get p.store.entries id.n ≡ Some e → e.depth < b.depth → (get_or p.expanded.items id.n 0 ≤ e.depth) ⊎ (p.least ≤ e.depth + 1) → IsClosed T (with_frontier p fr) e
-      closed at2 lt (inl le) a = (all id.n e at2).marked lt le a
-      closed at2 lt (inr le) a = late le
+      settled : slice_get p.store.entries id.n ≡ Some e → e.weight < b.bound → (get_or p.expanded.items id.n 0 ≤ e.weight) ⊎ (p.least ≤ e.weight + 1) → IsSettled T b (with_frontier p fr) e
+      settled at2 lt (inl le) a = (all id.n e at2).marked lt le a
+      settled at2 lt (inr le) a = past_best T t b p.store.entries p.least e le a
 
-      by : (i ≡ id.n) ⊎ (i ≢ id.n) → IsCovered T b.depth (with_frontier p fr) i e
+      by : (i ≡ id.n) ⊎ (i ≢ id.n) → IsCovered T b (with_frontier p fr) i e
       by (inl eq) =
           let at2 : slice_get p.store.entries id.n ≡ Some e = ap (slice_get p.store.entries) (sym eq) ∙ at in
-          record { waits = λ lt. inr (closed at2 lt (why e at2)); marked = λ lt le. closed at2 lt (why e at2) }
+          record { waits = λ lt. inr (settled at2 lt (why e at2)); marked = λ lt le. settled at2 lt (why e at2) }
       by (inr ne) = but_popped i e at ne
 
--- where nothing waits, no shorter plan reaches the goal
-pub nothing_waits : (T : PlanningTask) (b : Bounds) (p : Progress) → Keeps T b p → CoversAll T b p → p.frontier ≡ [] → p.least ≤ b.depth + 1 → (q : List ActionId) → length q < p.least → Reaches T q → ⊥
-nothing_waits T b p k all empty bound = none_shorter T b.depth b.worlds p.store.entries p.least (λ i e at lt. closed i e ((all i e at).waits lt)) k.sound bound
+-- where nothing waits, every action is settled in every entry
+pub all_settled : (T : PlanningTask) → IsPlanningTask T → (b : Bounds) (p : Progress) → CoversAll T b p → p.frontier ≡ []
+    → (i : ℕ) (e : Entry) → slice_get p.store.entries i ≡ Some e → (a : ActionId) → Settled T b p.store.entries p.least e.canon e.weight a
+all_settled T t b p all empty i e at a = by (cases_lt a.n (length T.actions)) (cases_lt e.weight b.bound)
   where
-    closed : (i : ℕ) (e : Entry) → Waits p.frontier i ⊎ IsClosed T p e → IsClosed T p e
-    closed i e (inl h) = absurd (subst (λ xs. Waits xs i) empty h)
-    closed i e (inr h) = h
+    done : Waits p.frontier i ⊎ IsSettled T b p e → IsSettled T b p e
+    done (inl h) = absurd (subst (λ xs. Waits xs i) empty h)
+    done (inr h) = h
+
+    by : (a.n < length T.actions) ⊎ (length T.actions ≤ a.n) → (e.weight < b.bound) ⊎ (b.bound ≤ e.weight) → Settled T b p.store.entries p.least e.canon e.weight a
+    by (inr ge) _ = refused (refuses_past T e.canon a (slice_get_past T.actions a.n ge))
+    by (inl lt) (inl below) = done ((all i e at).waits below) a
+    by (inl lt) (inr most) = far (omega (arith, most, toll_some T t b.measure a lt))
+
+-- where nothing waits, no plan that measures less reaches the goal
+pub nothing_waits : (T : PlanningTask) → IsPlanningTask T → (b : Bounds) (p : Progress) → Keeps T b p → CoversAll T b p → p.frontier ≡ [] → p.least ≤ b.bound + 1
+    → (q : List ActionId) → weight T b.measure q < p.least → Reaches T q → ⊥
+nothing_waits T t b p k all empty bound = none_less T b p.store.entries p.least (all_settled T t b p all empty) k.sound bound
 
 -- expansions fit
 pub spent_room : (d : ℕ) (xs : List ℕ) → spent d xs ≤ length xs * d
@@ -94,19 +115,19 @@ wider : (n m d : ℕ) → n ≤ m → n * d ≤ m * d
 wider n m d le = omega (arith, mul-le-mul_left d le, mul_comm n d, mul_comm m d)
 
 module _ (T : PlanningTask) (b : Bounds) (p : Progress) (k : Keeps T b p) where
-  pub room_all : spent b.depth p.expanded.items ≤ b.states * b.depth
-  room_all = omega (arith, spent_room b.depth p.expanded.items, wider (length p.expanded.items) b.states b.depth (omega (arith, k.marks, k.room)))
+  pub room_all : spent b.bound p.expanded.items ≤ b.states * b.bound
+  room_all = omega (arith, spent_room b.bound p.expanded.items, wider (length p.expanded.items) b.states b.bound (omega (arith, k.marks, k.room)))
 
-  pub room_left : (i m : ℕ) → i < length p.store.entries → m < get_or p.expanded.items i 0 → spent b.depth p.expanded.items + 1 ≤ b.states * b.depth
-  room_left i m lt less = omega (arith, spent_more b.depth p.expanded.items i (omega (arith, k.marks)) (omega arith) (k.low i), wider (length p.expanded.items) b.states b.depth (omega (arith, k.marks, k.room)))
+  pub room_left : (i m : ℕ) → i < length p.store.entries → m < get_or p.expanded.items i 0 → spent b.bound p.expanded.items + 1 ≤ b.states * b.bound
+  room_left i m lt less = omega (arith, spent_more b.bound p.expanded.items i (omega (arith, k.marks)) (omega arith) (k.low i), wider (length p.expanded.items) b.states b.bound (omega (arith, k.marks, k.room)))
 
 -- the answer where nothing waits
-pub none_answer : (T : PlanningTask) (b : Bounds) (p : Progress) → Keeps T b p → CoversAll T b p → p.frontier ≡ [] → p.best ≡ None → NoneWithin T b.depth
-none_answer T b p k all empty none q short r =
-    let best : p.least ≡ b.depth + 1 = subst (IsBest T b.depth p.least) none k.best in
-    nothing_waits T b p k all empty (omega arith) q (omega arith) r
+pub none_answer : (T : PlanningTask) → IsPlanningTask T → (b : Bounds) (p : Progress) → Keeps T b p → CoversAll T b p → p.frontier ≡ [] → p.best ≡ None → NoneWithin T b
+none_answer T t b p k all empty none q within r =
+    let best : p.least ≡ b.bound + 1 = subst (IsBest T b p.least) none k.best in
+    nothing_waits T t b p k all empty (omega (arith, best)) q (omega (arith, best, within)) r
 
-pub best_answer : (T : PlanningTask) (b : Bounds) (p : Progress) (plan : List ActionId) → Keeps T b p → CoversAll T b p → p.frontier ≡ [] → p.best ≡ Some plan → IsShortest T b.depth plan
-best_answer T b p plan k all empty some =
-    let best : (length plan ≡ p.least) × (p.least ≤ b.depth) × Reaches T plan = subst (IsBest T b.depth p.least) some k.best in
-    record { short = omega (arith, best.0, best.1); reaches = best.2; least = λ q short r. nothing_waits T b p k all empty (omega (arith, best.1)) q (omega (arith, best.0)) r }
+pub best_answer : (T : PlanningTask) → IsPlanningTask T → (b : Bounds) (p : Progress) (plan : List ActionId) → Keeps T b p → CoversAll T b p → p.frontier ≡ [] → p.best ≡ Some plan → IsLeast T b plan
+best_answer T t b p plan k all empty some =
+    let best : (weight T b.measure plan ≡ p.least) × (p.least ≤ b.bound) × Reaches T plan = subst (IsBest T b p.least) some k.best in
+    record { within = omega (arith, best.0, best.1); reaches = best.2; least = λ q less r. nothing_waits T t b p k all empty (omega (arith, best.1)) q (omega (arith, best.0, less)) r }

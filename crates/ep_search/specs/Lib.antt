@@ -4,7 +4,10 @@ pub mod Conjuncts
 pub mod Goal
 pub mod Kept
 pub mod Made
+pub mod Planned
 pub mod Progresses
 pub mod Setting
 pub mod Sound
+pub mod Tolls
+pub mod Weighed
 pub mod Within

@@ -1,3 +1,5 @@
+// What a guide is asked, and what waits after it.
+
 ghost use Rattle.std.specs.Prelude.{◌≡◌, ℕ, ◌<◌, ◌≤◌, OnOk, length};
 ghost use Rattle.ep_base.specs.Counts.{Rose};
 ghost use Rattle.ep_guide.specs.Waitings.{placed};
@@ -6,16 +8,16 @@ use crate::progress::Progress;
 use ep_guide::{Guide, View};
 use ep_logic::{OutOfMemory, StateId};
 
-// An entry of this depth, at whose state so many of the goal's parts are not true.
+// An entry of this weight, at whose state so many of the goal's parts are not true.
 #[derive(Clone, Copy)]
 pub struct Met {
     pub id: StateId,
-    pub depth: u32,
+    pub weight: u32,
     pub unmet: u32,
     pub parts: u32,
 }
 
-// Scores an entry, and pushes it.
+// Scores an entry, and pushes it. What a view calls the depth is the weight.
 pub fn enqueue(guide: &mut Box<dyn Guide>, p: &mut Progress, met: Met) -> Result<(), OutOfMemory>
     requires { met.id.n < length p.old.store.entries }
     ensures pushed { OnOk result ((score : ℕ) × (p.new
@@ -24,7 +26,7 @@ pub fn enqueue(guide: &mut Box<dyn Guide>, p: &mut Progress, met: Met) -> Result
 {
     let state = p.store.get(met.id).state();
     let view = View {
-        depth: met.depth,
+        depth: met.weight,
         worlds: state.worlds(),
         designated: state.designated().len() as u32,
         unmet: met.unmet,

@@ -1,3 +1,5 @@
+// The search, from its bounds to its answer.
+
 ghost use Rattle.std.specs.Prelude.{◌≡◌, ◌+◌, ◌*◌, ◌<◌, ◌≤◌, IfOk, OnOk, length};
 ghost use Rattle.ep_base.specs.Counts.{Rose};
 ghost use Rattle.ep_theory.specs.Canonical.{IsCanonical};
@@ -24,10 +26,11 @@ use ep_store::Store;
 use std::alloc::{AllocError, Global};
 use std::sync::ledger::Ledger;
 
-/// Looks for a plan by best-first search: each state that is stored below the depth is scored by the guide, and the
-/// state with the least score is expanded next. A state that is made is tested for the goal, then for its worlds, and
-/// then stored. Each try of an action ticks the counter once, and the only error is want of memory. That no guide can
-/// make an answer false, and the bounds on states and worlds, are this project's own.
+/// Looks for a plan by best-first search under the measure of the bounds: each state that is stored below the bound is
+/// scored by the guide, and the state with the least score is expanded next. A state that is made is tested for the
+/// goal, then for its worlds, and then stored with its weight, which is what the way to it measures. An action that
+/// leads past the bound is not tried; each that is tried ticks the counter once. The only error is want of memory. That
+/// no guide can make an answer false, and the bounds on states and worlds, are this project's own.
 pub fn search<L: Ledger>(
     alloc: Global,
     problem: &Problem,
@@ -37,10 +40,10 @@ pub fn search<L: Ledger>(
     steps: &mut Steps<L>,
 ) -> Result<Answer, OutOfMemory>
     requires { IsBounds bounds }
-    ensures allowed { IfOk result (Allowed problem.now bounds.depth bounds.states bounds.worlds mode) }
-    ensures complete { IfOk result (Completes problem.now bounds.depth bounds.states bounds.worlds mode) }
-    ensures steps { steps.new ≤ steps.old + bounds.states * bounds.depth * length problem.now.actions }
-    ensures asked { IfOk result (λ answer. WasAsked bounds.depth answer (asked guide.old) (asked guide.new)) }
+    ensures allowed { IfOk result (Allowed problem.now bounds mode) }
+    ensures complete { IfOk result (Completes problem.now bounds mode) }
+    ensures steps { steps.new ≤ steps.old + bounds.states * bounds.bound * length problem.now.actions }
+    ensures asked { IfOk result (λ answer. WasAsked bounds.bound answer (asked guide.old) (asked guide.new)) }
 {
     let setting = Setting {
         bounds,
@@ -59,17 +62,16 @@ fn answer<L: Ledger>(
     steps: &mut Steps<L>,
 ) -> Result<Answer, OutOfMemory>
     requires { IsSetting problem.now setting.now }
-    ensures allowed { IfOk result (Allowed problem.now setting.now.bounds.depth setting.now.bounds.states
-        setting.now.bounds.worlds setting.now.mode) }
+    ensures allowed { IfOk result (Allowed problem.now setting.now.bounds setting.now.mode) }
     ensures steps { steps.new ≤ steps.old
-        + setting.now.bounds.states * setting.now.bounds.depth * length problem.now.actions }
-    ensures asked { IfOk result (λ answer. WasAsked setting.now.bounds.depth answer (asked guide.old) (asked guide.new)) }
+        + setting.now.bounds.states * setting.now.bounds.bound * length problem.now.actions }
+    ensures asked { IfOk result (λ answer. WasAsked setting.now.bounds.bound answer (asked guide.old) (asked guide.new)) }
 {
     let unmet = count_unmet(alloc, problem.initial(), setting.parts.as_slice())?;
     if unmet == 0 {
         guide.met(0);
         return match setting.mode {
-            Mode::Prove => Ok(Answer::Shortest(List::new(alloc))),
+            Mode::Prove => Ok(Answer::Least(List::new(alloc))),
             Mode::First => Ok(Answer::Found(List::new(alloc))),
         };
     }
@@ -97,8 +99,8 @@ fn start(
     requires narrow { canon.worlds ≤ setting.now.bounds.worlds }
     ensures keeps { IfOk result (Keeps problem.now setting.now.bounds) }
     ensures covers { IfOk result (CoversAll problem.now setting.now.bounds) }
-    ensures fresh { IfOk result (λ p. spent setting.now.bounds.depth p.expanded.items ≡ 0) }
-    ensures asked { OnOk result (1 ≤ setting.now.bounds.depth → Rose (asked guide.old) (asked guide.new)) }
+    ensures fresh { IfOk result (λ p. spent setting.now.bounds.bound p.expanded.items ≡ 0) }
+    ensures asked { OnOk result (1 ≤ setting.now.bounds.bound → Rose (asked guide.old) (asked guide.new)) }
 {
     let mut store = Store::new(alloc, setting.bounds.states);
     match store.add(canon, 0, None) {
@@ -107,19 +109,19 @@ fn start(
     }
     let mut expanded = Vec::new(alloc);
     expanded
-        .push(setting.bounds.depth)
+        .push(setting.bounds.bound)
         .map_err(AllocError::from)?;
     let mut p = Progress {
         store,
         frontier: Frontier::new(alloc),
         expanded,
         best: None,
-        least: setting.bounds.depth + 1,
+        least: setting.bounds.bound + 1,
     };
-    if 0 < setting.bounds.depth {
+    if 0 < setting.bounds.bound {
         let met = Met {
             id: StateId { n: 0 },
-            depth: 0,
+            weight: 0,
             unmet,
             parts: setting.parts.as_slice().len() as u32,
         };

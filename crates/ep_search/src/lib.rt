@@ -7,11 +7,14 @@ mod bounded;
 mod child;
 mod expand;
 mod goal;
+mod laws;
 mod made;
 mod parts;
+mod plan;
 mod progress;
 mod run;
 mod setting;
+mod toll;
 
 pub use answer::Answer;
 pub use bounded::search;

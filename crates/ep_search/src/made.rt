@@ -1,3 +1,5 @@
+// What an action makes of a state.
+
 ghost use Rattle.std.specs.Prelude.{◌≡◌, ◌+◌, ◌≤◌, IfOk};
 ghost use Rattle.ep_theory.specs.Fits.{ActionFits};
 ghost use Rattle.ep_search.specs.Made.{Makes};

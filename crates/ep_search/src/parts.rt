@@ -1,3 +1,5 @@
+// The parts of a goal.
+
 ghost use Rattle.std.specs.Prelude.{◌≡◌, ◌<◌, ◌≤◌, ◌^◌, IfOk, IsTrue, length, map, sum};
 ghost use Rattle.std.specs.List.{list_all};
 ghost use Rattle.ep_logic.specs.declared.formula.TheConstants.{MOST_NODES};

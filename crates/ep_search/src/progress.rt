@@ -1,9 +1,11 @@
+// How far a search has come.
+
 use ep_guide::Frontier;
 use ep_problem::Plan;
 use ep_store::Store;
 
-// How far a search has come. `expanded` has for each entry the depth at which it was last expanded, or the bound;
-// `least` is the length of the best plan, or one more than the bound.
+// `expanded` has for each entry the weight at which it was last expanded, or the bound;
+// `least` is the weight of the best plan, or one more than the bound.
 #[derive(Drop)]
 pub struct Progress {
     pub store: Store,

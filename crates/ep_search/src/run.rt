@@ -1,3 +1,5 @@
+// The entries that wait, one after another.
+
 ghost use Rattle.std.specs.Prelude.{◌≡◌, ◌+◌, ◌*◌, ◌<◌, ◌≤◌, IfOk, length};
 ghost use Rattle.ep_search.specs.Allowed.{Allowed};
 ghost use Rattle.ep_search.specs.Kept.{Kept};
@@ -27,17 +29,16 @@ pub fn run<L: Ledger>(
     requires setting { IsSetting problem.now setting.now }
     requires keeps { Keeps problem.now setting.now.bounds p.old }
     requires covers { CoversAll problem.now setting.now.bounds p.old }
-    requires fresh { spent setting.now.bounds.depth p.old.expanded.items ≡ 0 }
-    ensures allowed { IfOk result (Allowed problem.now setting.now.bounds.depth setting.now.bounds.states
-        setting.now.bounds.worlds setting.now.mode) }
+    requires fresh { spent setting.now.bounds.bound p.old.expanded.items ≡ 0 }
+    ensures allowed { IfOk result (Allowed problem.now setting.now.bounds setting.now.mode) }
     ensures asked { Kept (asked guide.old) (asked guide.new) }
     ensures steps { steps.new ≤ steps.old
-        + setting.now.bounds.states * setting.now.bounds.depth * length problem.now.actions }
+        + setting.now.bounds.states * setting.now.bounds.bound * length problem.now.actions }
 {
     while let Some(id) = p.frontier.pop() {
-        let depth = p.store.depth(id);
-        if depth < p.expanded[id.n as usize] && depth + 1 < p.least {
-            let went = expand(alloc, problem, setting, guide, steps, p, id, depth)?;
+        let weight = p.store.weight(id);
+        if weight < p.expanded[id.n as usize] && weight + 1 < p.least {
+            let went = expand(alloc, problem, setting, guide, steps, p, id, weight)?;
             if let Some(answer) = went {
                 return Ok(answer);
             }
@@ -46,7 +47,7 @@ pub fn run<L: Ledger>(
     match p.best.take() {
         None => Ok(Answer::NoneTo),
         Some(plan) => match setting.mode {
-            Mode::Prove => Ok(Answer::Shortest(plan)),
+            Mode::Prove => Ok(Answer::Least(plan)),
             Mode::First => Ok(Answer::Found(plan)),
         },
     }

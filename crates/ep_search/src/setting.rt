@@ -1,7 +1,9 @@
+// What a search is set to.
+
 use ep_bounds::{Bounds, Mode};
 use ep_logic::{Formula, List};
 
-// What a search is set to, and the parts of the goal, which a guide is told of.
+// Bounds and a mode, and the parts of the goal, which a guide is told of.
 #[derive(Drop)]
 pub struct Setting {
     pub bounds: Bounds,

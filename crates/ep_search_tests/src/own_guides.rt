@@ -4,19 +4,19 @@ use ep_guide::{Guide, View};
 use std::cell::RefCell;
 use std::rc::Rc;
 
-/// Scores deep states first.
+/// Scores heavy states first.
 #[derive(Drop)]
-pub struct Deepest {
+pub struct Heaviest {
     asked: u64,
 }
 
-impl Deepest {
-    pub fn new() -> Deepest {
-        Deepest { asked: 0 }
+impl Heaviest {
+    pub fn new() -> Heaviest {
+        Heaviest { asked: 0 }
     }
 }
 
-impl Guide for Deepest {
+impl Guide for Heaviest {
     ghost asked = { λ g. g.asked };
 
     fn score(&mut self, view: &View) -> u64 {
@@ -24,10 +24,10 @@ impl Guide for Deepest {
         u64::MAX - u64::from(view.depth)
     }
 
-    fn met(&mut self, _depth: u32) {}
+    fn met(&mut self, _weight: u32) {}
 }
 
-/// What a guide is told: a state, or that one of this depth reaches the goal.
+/// What a guide is told: a state, or that one of this weight reaches the goal. What a view calls the depth is the weight.
 #[derive(Clone, Copy)]
 pub enum Record {
     Seen(View),
@@ -50,19 +50,28 @@ impl Record {
     }
 }
 
-/// Scores by the depth, and records its calls while there is room.
+/// Which states a recorder scores first.
+#[derive(Clone, Copy)]
+pub enum Order {
+    Lightest,
+    Heaviest,
+    /// The one that was stored first.
+    Oldest,
+}
+
+/// Scores in an order, and records its calls while there is room.
 #[derive(Drop)]
 pub struct Recorder {
     asked: u64,
-    deepest: bool,
+    order: Order,
     records: Rc<RefCell<Vec<Record>>>,
 }
 
 impl Recorder {
-    pub fn new(deepest: bool, records: Rc<RefCell<Vec<Record>>>) -> Recorder {
+    pub fn new(order: Order, records: Rc<RefCell<Vec<Record>>>) -> Recorder {
         Recorder {
             asked: 0,
-            deepest,
+            order,
             records,
         }
     }
@@ -82,15 +91,15 @@ impl Guide for Recorder {
     fn score(&mut self, view: &View) -> u64 {
         self.asked = self.asked.saturating_add(1);
         keep(&self.records, Record::Seen(*view));
-        let depth = u64::from(view.depth);
-        if self.deepest {
-            u64::MAX - depth
-        } else {
-            depth
+        let weight = u64::from(view.depth);
+        match self.order {
+            Order::Lightest => weight,
+            Order::Heaviest => u64::MAX - weight,
+            Order::Oldest => 0,
         }
     }
 
-    fn met(&mut self, depth: u32) {
-        keep(&self.records, Record::Met(depth));
+    fn met(&mut self, weight: u32) {
+        keep(&self.records, Record::Met(weight));
     }
 }

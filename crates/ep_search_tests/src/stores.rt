@@ -3,7 +3,7 @@
 use crate::states::{Shape, state};
 use ep_canon::{Canon, contract};
 use ep_logic::{ActionId, OutOfMemory, StateId};
-use ep_store::{Added, Store, StoreError};
+use ep_store::{Added, Step, Store, StoreError};
 use std::alloc::Global;
 use std::process::Abort;
 use std::test::Fail;
@@ -51,33 +51,37 @@ fn add_first(rt: &impl Abort, store: &mut Store, canon: Canon) -> Result<Added, 
     store.add(canon, 0, None)
 }
 
-// Adds what an action leads to from an entry.
-fn add_from(
+// Adds what a step leads to.
+fn add_by(
     rt: &impl Abort,
     store: &mut Store,
     canon: Canon,
-    depth: u32,
-    parent: StateId,
-    action: ActionId,
+    weight: u32,
+    step: Step,
 ) -> Result<Added, StoreError> {
-    assert!(rt; parent.n < store.len());
-    assert!(rt; store.depth(parent) < depth);
-    store.add(canon, depth, Some((parent, action)))
+    assert!(rt; step.parent.n < store.len());
+    assert!(rt; 1 <= step.toll && step.toll <= weight);
+    assert!(rt; store.weight(step.parent) <= weight - step.toll);
+    store.add(canon, weight, Some(step))
 }
 
-// The first state comes from no entry.
+// The first state comes from no entry, each other one by its parent, action and toll.
 fn add(
     rt: &impl Abort,
     store: &mut Store,
     canon: Canon,
-    depth: u32,
-    from: Option<(u32, u32)>,
+    weight: u32,
+    from: Option<(u32, u32, u32)>,
 ) -> Result<Added, StoreError> {
     match from {
         None => add_first(rt, store, canon),
-        Some((parent, action)) => {
-            let (parent, action) = (StateId { n: parent }, ActionId { n: action });
-            add_from(rt, store, canon, depth, parent, action)
+        Some((parent, action, toll)) => {
+            let step = Step {
+                parent: StateId { n: parent },
+                action: ActionId { n: action },
+                toll,
+            };
+            add_by(rt, store, canon, weight, step)
         }
     }
 }
@@ -93,8 +97,14 @@ fn told(answer: &Result<Added, StoreError>) -> (&'static str, u32) {
     }
 }
 
-// A state, its depth, the entry and the action that it comes from, and what becomes of it.
-type Row = (&'static Shape, u32, Option<(u32, u32)>, &'static str, u32);
+// A state, its weight, the entry, the action and the toll that it comes by, and what becomes of it.
+type Row = (
+    &'static Shape,
+    u32,
+    Option<(u32, u32, u32)>,
+    &'static str,
+    u32,
+);
 
 fn check_told(rt: &impl Abort, answer: &Result<Added, StoreError>, wanted: &str, number: u32) {
     let (found, found_number) = told(answer);
@@ -103,9 +113,9 @@ fn check_told(rt: &impl Abort, answer: &Result<Added, StoreError>, wanted: &str,
 }
 
 fn check_row(rt: &impl Abort, alloc: Global, store: &mut Store, row: &Row) -> Result<(), Fail> {
-    let (shape, depth, from, wanted, number) = row;
+    let (shape, weight, from, wanted, number) = row;
     let canon = canon(rt, alloc, shape)?;
-    let answer = add(rt, store, canon, *depth, *from);
+    let answer = add(rt, store, canon, *weight, *from);
     check_told(rt, &answer, wanted, *number);
     Ok(())
 }
@@ -117,13 +127,19 @@ fn check(rt: &impl Abort, alloc: Global, store: &mut Store, rows: &[Row]) -> Res
     Ok(())
 }
 
-fn check_path(rt: &impl Abort, store: &Store, id: u32, wanted: &[u32]) -> Result<(), OutOfMemory> {
+// The actions of the steps to an entry, with their tolls.
+fn check_path(
+    rt: &impl Abort,
+    store: &Store,
+    id: u32,
+    wanted: &[(u32, u32)],
+) -> Result<(), OutOfMemory> {
     assert!(rt; id < store.len());
     let path = store.path(StateId { n: id })?;
     assert!(rt;
         path.as_slice()
             .iter()
-            .map(|a| a.n)
+            .map(|step| (step.action.n, step.toll))
             .eq(wanted.iter().copied())
     );
     Ok(())
@@ -131,8 +147,8 @@ fn check_path(rt: &impl Abort, store: &Store, id: u32, wanted: &[u32]) -> Result
 
 static TWO_STATES: [Row; 3] = [
     (&TWO, 0, None, "new", 0),
-    (&TWO, 1, Some((0, 7)), "known", 0),
-    (&THREE, 1, Some((0, 7)), "full", 3),
+    (&TWO, 1, Some((0, 7, 1)), "known", 0),
+    (&THREE, 1, Some((0, 7, 1)), "full", 3),
 ];
 
 #[test]
@@ -145,29 +161,33 @@ fn a_store_of_one_state_hands_others_back(rt: HostRuntime) -> Result<(), Fail> {
 
 static ONE_WAY: [Row; 5] = [
     (&ONE, 0, None, "new", 0),
-    (&TWO, 1, Some((0, 1)), "new", 1),
-    (&THREE, 2, Some((1, 2)), "new", 2),
-    (&FOUR, 3, Some((2, 3)), "new", 3),
-    (&FIVE, 4, Some((3, 4)), "new", 4),
+    (&TWO, 1, Some((0, 1, 1)), "new", 1),
+    (&THREE, 2, Some((1, 2, 1)), "new", 2),
+    (&FOUR, 9, Some((2, 3, 7)), "new", 3),
+    (&FIVE, 12, Some((3, 4, 3)), "new", 4),
 ];
 
-// A state of depth 3 comes at depth 2, while another is behind it.
-static SHORTER_WAY: [Row; 1] = [(&FOUR, 2, Some((1, 9)), "better", 3)];
+// A state of weight 9 comes at the same weight, and then at weight 6, while another is behind it.
+static LIGHTER_WAY: [Row; 2] = [
+    (&FOUR, 9, Some((1, 8, 8)), "known", 3),
+    (&FOUR, 6, Some((1, 9, 5)), "better", 3),
+];
 
-fn check_shortened(rt: &impl Abort, store: &Store) {
+fn check_lighter(rt: &impl Abort, store: &Store) {
     let id = StateId { n: 3 };
     assert!(rt; store.len() == 5);
-    assert_eq!(rt; store.depth(id), 2);
+    assert_eq!(rt; store.weight(id), 6);
     assert_eq!(rt; store.get(id).state().worlds(), 4);
 }
 
+// The state behind keeps its weight of 12, while its path adds up to 9.
 #[test]
-fn a_shorter_path_takes_the_place_of_a_longer(rt: HostRuntime) -> Result<(), Fail> {
+fn a_lighter_path_takes_the_place_of_a_heavier(rt: HostRuntime) -> Result<(), Fail> {
     let mut store = Store::new(rt.alloc(), 10);
     check(&rt, rt.alloc(), &mut store, &ONE_WAY)?;
-    check_path(&rt, &store, 4, &[1, 2, 3, 4])?;
-    check(&rt, rt.alloc(), &mut store, &SHORTER_WAY)?;
-    check_path(&rt, &store, 4, &[1, 9, 4])?;
-    check_shortened(&rt, &store);
+    check_path(&rt, &store, 4, &[(1, 1), (2, 1), (3, 7), (4, 3)])?;
+    check(&rt, rt.alloc(), &mut store, &LIGHTER_WAY)?;
+    check_path(&rt, &store, 4, &[(1, 1), (9, 5), (4, 3)])?;
+    check_lighter(&rt, &store);
     Ok(())
 }

@@ -24,10 +24,12 @@ pub enum Goal {
     KnownApart(u32, u32),
 }
 
+/// A task, with the costs of its actions, or none where each costs 1.
 #[derive(Clone, Copy)]
 pub struct Task {
     shape: Shape,
     actions: &'static [Act],
+    costs: &'static [u32],
     goal: Goal,
 }
 
@@ -49,6 +51,7 @@ pub const COIN: Task = Task {
         ],
     },
     actions: &[Act::Look(0), Act::Look(1), Act::Twice],
+    costs: &[],
     goal: Goal::KnownApart(0, 1),
 };
 
@@ -81,10 +84,69 @@ pub const WAYS: Task = Task {
         Act::Move(4, 5),
         Act::Move(5, 6),
     ],
+    costs: &[],
     goal: Goal::Atom(6),
 };
 
-// Two states of depth 1, of which the first leads to g and the second to another state.
+// The way of fewer actions to x costs more.
+pub const COSTLY_WAY: Task = Task {
+    costs: &[1, 1, 1, 5, 5, 1, 1],
+    ..WAYS
+};
+
+// The same with the way of fewer actions first.
+pub const COSTLY_FIRST: Task = Task {
+    actions: &[
+        Act::Move(0, 3),
+        Act::Move(3, 4),
+        Act::Move(0, 1),
+        Act::Move(1, 2),
+        Act::Move(2, 4),
+        Act::Move(4, 5),
+        Act::Move(5, 6),
+    ],
+    costs: &[5, 5, 1, 1, 1, 1, 1],
+    ..WAYS
+};
+
+// To the goal at once for 10, or by mid for 3 and 4. The atoms are here, mid and there.
+pub const TOLL: Task = Task {
+    shape: Shape {
+        agents: 1,
+        atoms: 3,
+        worlds: &[&[0]],
+        links: &[(0, 0, 0)],
+    },
+    actions: &[Act::Also(0, 2), Act::Move(0, 1), Act::Also(1, 2)],
+    costs: &[10, 3, 4],
+    goal: Goal::Atom(2),
+};
+
+// Ten actions in a row, each of the greatest cost.
+pub const DEAR: Task = Task {
+    shape: Shape {
+        agents: 1,
+        atoms: 11,
+        worlds: &[&[0]],
+        links: &[(0, 0, 0)],
+    },
+    actions: &[
+        Act::Move(0, 1),
+        Act::Move(1, 2),
+        Act::Move(2, 3),
+        Act::Move(3, 4),
+        Act::Move(4, 5),
+        Act::Move(5, 6),
+        Act::Move(6, 7),
+        Act::Move(7, 8),
+        Act::Move(8, 9),
+        Act::Move(9, 10),
+    ],
+    costs: &[100, 100, 100, 100, 100, 100, 100, 100, 100, 100],
+    goal: Goal::Atom(10),
+};
+
+// Two states of weight 1, of which the first leads to g and the second to another state.
 pub const FORK: Task = Task {
     actions: &[
         Act::Move(0, 1),
@@ -165,12 +227,12 @@ fn check_costs(rt: &impl Abort, costs: &[u32])
     }
 }
 
-fn ones(alloc: Global, count: usize) -> Result<List<u32>, OutOfMemory> {
-    let mut ones = List::new(alloc);
-    for _n in 0..count {
-        ones.push(1)?;
+fn costs(alloc: Global, task: &Task) -> Result<List<u32>, OutOfMemory> {
+    let mut costs = List::new(alloc);
+    for n in 0..task.actions.len() {
+        costs.push(task.costs.get(n).copied().unwrap_or(1))?;
     }
-    Ok(ones)
+    Ok(costs)
 }
 
 fn posed(
@@ -190,7 +252,7 @@ fn posed(
 pub fn problem(rt: &impl Abort, alloc: Global, task: &Task) -> Result<Problem, Fail> {
     let initial = state(rt, alloc, &task.shape)?;
     let actions = actions(rt, alloc, task)?;
-    let costs = ones(alloc, actions.as_slice().len())?;
+    let costs = costs(alloc, task)?;
     let goal = formula(rt, alloc, task.goal)?;
     Ok(posed(rt, initial, actions, costs, goal))
 }

@@ -6,6 +6,8 @@ mod actions;
 #[cfg(test)]
 mod formulas;
 #[cfg(test)]
+mod interned;
+#[cfg(test)]
 mod made;
 #[cfg(test)]
 mod rows;
@@ -13,6 +15,8 @@ mod rows;
 mod sizes;
 #[cfg(test)]
 mod states;
+#[cfg(test)]
+mod tables;
 #[cfg(test)]
 mod truths;
 #[cfg(test)]

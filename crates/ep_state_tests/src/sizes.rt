@@ -2,8 +2,9 @@
 
 ghost use Rattle.std.specs.Prelude.{◌≡◌, ◌≤◌, ◌<◌};
 
+use crate::interned::interned;
 use crate::made::{Triple, built, links, worlds};
-use ep_kripke::{State, StateError, StateParts};
+use ep_kripke::{RowTable, State, StateError, StateParts};
 use ep_logic::{AgentId, AtomId, Bits, List, OutOfMemory, WorldId};
 use std::alloc::{AllocError, Global};
 use std::process::Abort;
@@ -117,6 +118,22 @@ fn check_sized(
     Ok(())
 }
 
+// The 65 truth rows, the rows of agent 0, that of agent 1 and that of the designated worlds stand in the table.
+fn check_interned(
+    rt: &impl Abort,
+    alloc: Global,
+    s: &State,
+    count: u32,
+    same: &[u32],
+) -> Result<(), OutOfMemory> {
+    assert!(rt; count < 5_000);
+    let mut table = RowTable::new(alloc);
+    let shared = interned(rt, alloc, s, &mut table)?;
+    assert_eq!(rt; table.len(), 65 + count as usize + 2);
+    assert_eq!(rt; shared.key.as_slice().len(), 4 + 3 * count as usize);
+    check_sized(rt, alloc, &shared.state, count, same)
+}
+
 #[test]
 fn states_on_both_sides_of_4096_worlds(rt: HostRuntime) -> Result<(), Fail> {
     for count in [4_096u32, 4_097] {
@@ -125,6 +142,9 @@ fn states_on_both_sides_of_4096_worlds(rt: HostRuntime) -> Result<(), Fail> {
         check_sized(&rt, rt.alloc(), &s, count, &same)?;
         let copy = s.copy(rt.alloc())?;
         check_sized(&rt, rt.alloc(), &copy, count, &same)?;
+        if count <= 4_096 {
+            check_interned(&rt, rt.alloc(), &s, count, &same)?;
+        }
     }
     Ok(())
 }

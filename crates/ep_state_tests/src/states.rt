@@ -1,7 +1,8 @@
 // States from their parts, and what they show.
 
+use crate::interned::interned;
 use crate::made::{Given, Triple, built, links, state, worlds};
-use ep_kripke::{State, StateError, StateParts};
+use ep_kripke::{RowTable, State, StateError, StateParts};
 use ep_logic::{AgentId, AtomId, Bits, List, OutOfMemory, WorldId};
 use std::alloc::{AllocError, Global};
 use std::process::Abort;
@@ -130,6 +131,8 @@ fn repeated_parts_count_once(rt: HostRuntime) -> Result<(), Fail> {
     check_three_worlds(&rt, alloc, &s)?;
     let copy = s.copy(alloc)?;
     check_three_worlds(&rt, alloc, &copy)?;
+    let shared = interned(&rt, alloc, &s, &mut RowTable::new(alloc))?;
+    check_three_worlds(&rt, alloc, &shared.state)?;
     Ok(())
 }
 

@@ -1,6 +1,6 @@
 // Truth of formulas at worlds.
 
-ghost use Rattle.std.specs.Prelude.{◌≡◌, length, IfOk};
+ghost use Rattle.std.specs.Prelude.{◌≡◌, ◌≤◌, length, IfOk};
 
 use crate::made::{Given, Triple, state};
 use ep_kripke::State;
@@ -10,8 +10,9 @@ use std::alloc::Global;
 use std::process::Abort;
 use std::test::Fail;
 
+/// A formula over heads, by its form.
 #[derive(Clone, Copy, Debug)]
-enum Shape<'a> {
+pub enum Shape<'a> {
     True,
     False,
     Atom(u32),
@@ -60,7 +61,7 @@ fn tails_or(alloc: Global, f: Formula) -> Result<Formula, Fail> {
     Ok(Formula::or(alloc, parts)?)
 }
 
-fn formula(rt: &impl Abort, alloc: Global, shape: Shape<'_>) -> Result<Formula, Fail> {
+pub fn formula(rt: &impl Abort, alloc: Global, shape: Shape<'_>) -> Result<Formula, Fail> {
     match shape {
         Shape::True => Ok(Formula::truth(true)),
         Shape::False => Ok(Formula::truth(false)),
@@ -234,42 +235,108 @@ fn which_formulas_fit(rt: HostRuntime) -> Result<(), Fail> {
     Ok(())
 }
 
-// Both agents take turns along 4,096 worlds, and only the last has tails.
-fn long_chain(rt: &impl Abort, alloc: Global) -> Result<State, Fail> {
-    let (heads, tails): (&[u32], &[u32]) = (&[0], &[]);
-    let mut worlds = vec![in alloc; heads; 4_095]?;
-    worlds.push(tails)?;
-    let links: Vec<Triple> = (0..4_095u32).map(|w| (w % 2, w, w + 1)).collect(alloc)?;
+// As many worlds, of which only the last may have tails.
+fn long_state(
+    rt: &impl Abort,
+    alloc: Global,
+    count: u32,
+    last: &[u32],
+    links: &[Triple],
+) -> Result<State, Fail>
+    requires { 1 ≤ count }
+{
+    let heads: &[u32] = &[0];
+    let mut worlds = vec![in alloc; heads; count as usize - 1]?;
+    worlds.push(last)?;
     let given = Given {
         agents: 2,
         atoms: 1,
         worlds: &worlds,
-        links: &links,
+        links,
         designated: &[0],
     };
     Ok(state(rt, alloc, &given)?)
 }
 
-#[test]
-fn common_knowledge_along_a_long_chain(rt: HostRuntime) -> Result<(), Fail> {
-    let s = long_chain(&rt, rt.alloc())?;
-    let f = common(&rt, rt.alloc(), &[0, 1])?;
-    check_worlds_false(&rt, rt.alloc(), &s, &f)?;
-    Ok(())
-}
-
-// The formula is false at each of 4,096 worlds.
-fn check_worlds_false(
+// The formula has the one value at each world before the last, and the other at the last.
+fn check_long(
     rt: &impl Abort,
     alloc: Global,
     s: &State,
     f: &Formula,
+    want: (bool, bool),
 ) -> Result<(), OutOfMemory> {
     assert!(rt; fits(s, f));
     let row = label(alloc, s, f)?;
-    assert_eq!(rt; row.len(), 4_096);
-    for w in 0..4_096 {
-        assert!(rt; !row.get(w), "at world {w}");
+    assert!(rt; row.len() > 0);
+    let last = row.len() - 1;
+    for w in 0..last {
+        assert_eq!(rt; row.get(w), want.0, "at world {w}");
     }
+    assert_eq!(rt; row.get(last), want.1);
+    Ok(())
+}
+
+// Both agents take turns along 4,096 worlds.
+#[test]
+fn common_knowledge_along_a_long_chain(rt: HostRuntime) -> Result<(), Fail> {
+    let links: Vec<Triple> = (0..4_095u32)
+        .map(|w| (w % 2, w, w + 1))
+        .collect(rt.alloc())?;
+    let both = common(&rt, rt.alloc(), &[0, 1])?;
+    let first = common(&rt, rt.alloc(), &[0])?;
+    let s = long_state(&rt, rt.alloc(), 4_096, &[], &links)?;
+    check_long(&rt, rt.alloc(), &s, &both, (false, false))?;
+    let s = long_state(&rt, rt.alloc(), 4_096, &[0], &links)?;
+    check_long(&rt, rt.alloc(), &s, &both, (true, true))?;
+    check_long(&rt, rt.alloc(), &s, &first, (true, true))?;
+    Ok(())
+}
+
+// The last of 4,096 worlds is linked to the first.
+#[test]
+fn common_knowledge_around_a_ring(rt: HostRuntime) -> Result<(), Fail> {
+    let links: Vec<Triple> = (0..4_096u32)
+        .map(|w| (w % 2, w, (w + 1) % 4_096))
+        .collect(rt.alloc())?;
+    let both = common(&rt, rt.alloc(), &[0, 1])?;
+    let s = long_state(&rt, rt.alloc(), 4_096, &[0], &links)?;
+    check_long(&rt, rt.alloc(), &s, &both, (true, true))?;
+    let s = long_state(&rt, rt.alloc(), 4_096, &[], &links)?;
+    check_long(&rt, rt.alloc(), &s, &both, (false, false))?;
+    Ok(())
+}
+
+// Each of 70 worlds is linked to all: all rows are one.
+#[test]
+fn what_is_known_where_all_rows_are_the_same(rt: HostRuntime) -> Result<(), Fail> {
+    let links: Vec<Triple> = (0..4_900u32)
+        .map(|i| (0, i / 70, i % 70))
+        .collect(rt.alloc())?;
+    let known = knows(&rt, rt.alloc(), 0)?;
+    let shared = common(&rt, rt.alloc(), &[0])?;
+    let s = long_state(&rt, rt.alloc(), 70, &[0], &links)?;
+    check_long(&rt, rt.alloc(), &s, &known, (true, true))?;
+    check_long(&rt, rt.alloc(), &s, &shared, (true, true))?;
+    let s = long_state(&rt, rt.alloc(), 70, &[], &links)?;
+    check_long(&rt, rt.alloc(), &s, &known, (false, false))?;
+    check_long(&rt, rt.alloc(), &s, &shared, (false, false))?;
+    Ok(())
+}
+
+// Each of 70 worlds is linked to itself and those before it: all rows differ.
+#[test]
+fn what_is_known_where_all_rows_differ(rt: HostRuntime) -> Result<(), Fail> {
+    let links: Vec<Triple> = (0..4_900u32)
+        .filter(|i| *i % 70 <= *i / 70)
+        .map(|i| (0, i / 70, i % 70))
+        .collect(rt.alloc())?;
+    let known = knows(&rt, rt.alloc(), 0)?;
+    let unlinked = knows(&rt, rt.alloc(), 1)?;
+    let shared = common(&rt, rt.alloc(), &[0])?;
+    let s = long_state(&rt, rt.alloc(), 70, &[], &links)?;
+    check_long(&rt, rt.alloc(), &s, &known, (true, false))?;
+    check_long(&rt, rt.alloc(), &s, &unlinked, (true, true))?;
+    check_long(&rt, rt.alloc(), &s, &shared, (true, false))?;
     Ok(())
 }

@@ -1,15 +1,14 @@
 -- What is kept where an entry is put at the end or written.
-use Rattle.std.proofs.Common.{◌≡◌, ◌≢◌, ℕ, zero, suc, ◌<◌, ◌⊎◌, inl, inr, ⊎_elim, List, [], ◌∷◌, ◌++◌, set, length, slice_get, Vec, Option, Some, None, refl, sym, ap, subst, ◌∙◌, arith}
+use Rattle.std.proofs.Common.{◌≡◌, ◌≢◌, ℕ, zero, suc, ◌+◌, ◌<◌, ◌≤◌, ◌⊎◌, inl, inr, ⊎_elim, List, [], ◌∷◌, ◌++◌, set, length, slice_get, Vec, Option, Some, None, refl, sym, ap, subst, ◌∙◌, arith}
 use Rattle.std.specs.declared.alloc.Global.{Global}
 use Rattle.std.specs.Map.{values_of}
 use Rattle.indexmap.specs.IndexMap.{set_value_at}
 use Rattle.std.proofs.lemmas.List.{map-append}
 use Rattle.std.proofs.lemmas.Option.{same_Some, none-some}
 use Rattle.std.proofs.lemmas.Bool.Decides.{eqb_tells}
-use Rattle.ep_logic.specs.declared.ids.StateId.{StateId}
-use Rattle.ep_logic.specs.declared.ids.ActionId.{ActionId}
 use Rattle.ep_theory.specs.Kripke.{IsState}
-use Rattle.ep_canon.specs.Bytes.{bytes_of}
+use Rattle.ep_bytes.specs.Bytes.{bytes_of}
+use Rattle.ep_store.specs.declared.entry.Step.{Step}
 use Rattle.ep_store.specs.declared.entry.Entry.{Entry}
 use Rattle.ep_store.specs.Stored.{Has, Lacks, AreDistinct, MayCome}
 use Rattle.ep_store.specs.Inside.{Comes, IsTree, IsKeyed}
@@ -33,19 +32,19 @@ length-values (p ∷ ps) = ap suc (length-values ps)
 has_push : (es : List Entry) (e : Entry) (i : ℕ) (P : Entry → Type 0) → Has es i P → Has (es ++ e ∷ []) i P
 has_push es e i P h = record { entry = h.entry; at = at_push_old es e i h.entry h.at; holds = h.holds }
 
-comes_push : (es : List Entry) (e : Entry) (i depth : ℕ) (from : Option (StateId × ActionId)) → Comes es i depth from → Comes (es ++ e ∷ []) i depth from
-comes_push es e i depth None h = h
-comes_push es e i depth (Some from) h = has_push es e from.0.n (λ f. f.depth < depth) h
+comes_push : (es : List Entry) (e : Entry) (i weight : ℕ) (from : Option Step) → Comes es i weight from → Comes (es ++ e ∷ []) i weight from
+comes_push es e i weight None h = h
+comes_push es e i weight (Some step) h = (h.0, has_push es e step.parent.n (λ f. f.weight + step.toll ≤ weight) h.1)
 
-comes_last : (es : List Entry) (e : Entry) (depth : ℕ) (from : Option (StateId × ActionId)) → MayCome es depth from → Comes (es ++ e ∷ []) (length es) depth from
-comes_last es e depth None h = (ap length h.0, h.1)
-comes_last es e depth (Some from) h = has_push es e from.0.n (λ f. f.depth < depth) h
+comes_last : (es : List Entry) (e : Entry) (weight : ℕ) (from : Option Step) → MayCome es weight from → Comes (es ++ e ∷ []) (length es) weight from
+comes_last es e weight None h = (ap length h.0, h.1)
+comes_last es e weight (Some step) h = (h.0, has_push es e step.parent.n (λ f. f.weight + step.toll ≤ weight) h.1)
 
-pub tree_push : (es : List Entry) (e : Entry) → IsTree es → MayCome es e.depth e.from → IsTree (es ++ e ∷ [])
+pub tree_push : (es : List Entry) (e : Entry) → IsTree es → MayCome es e.weight e.from → IsTree (es ++ e ∷ [])
 tree_push es e tree comes i f at = ⊎_elim
-    (λ (h : slice_get es i ≡ Some f). comes_push es e i f.depth f.from (tree i f h))
+    (λ (h : slice_get es i ≡ Some f). comes_push es e i f.weight f.from (tree i f h))
     (λ (h : (i ≡ length es) × (e ≡ f)).
-    subst (λ (g : Entry). Comes (es ++ e ∷ []) i g.depth g.from) h.1 (subst (λ n. Comes (es ++ e ∷ []) n e.depth e.from) (sym h.0) (comes_last es e e.depth e.from comes)))
+    subst (λ (g : Entry). Comes (es ++ e ∷ []) i g.weight g.from) h.1 (subst (λ n. Comes (es ++ e ∷ []) n e.weight e.from) (sym h.0) (comes_last es e e.weight e.from comes)))
     (at_push_cases es e i f at)
 
 pub distinct_push : (es : List Entry) (e : Entry) → AreDistinct es → Lacks es e.canon → AreDistinct (es ++ e ∷ [])
@@ -63,31 +62,31 @@ keyed_push ps key e keyed own valid i p at = ⊎_elim
     (λ (h : (i ≡ length ps) × ((key, e) ≡ p)). subst (λ (q : Pair). (q.0.items ≡ bytes_of q.1.canon) × IsState q.1.canon) h.1 (own, valid))
     (at_push_cases ps (key, e) i p at)
 
--- an entry that is written with a lesser depth
-module _ (es : List Entry) (i : ℕ) (old e : Entry) (at_old : slice_get es i ≡ Some old) (less : e.depth < old.depth) where
-  -- an entry below a depth stays below it
-  has_set : (j depth : ℕ) → Has es j (λ f. f.depth < depth) → Has (set es i e) j (λ f. f.depth < depth)
-  has_set j depth h = elim (eqb_tells i j) [
+-- an entry that is written with a lesser weight
+module _ (es : List Entry) (i : ℕ) (old e : Entry) (at_old : slice_get es i ≡ Some old) (less : e.weight < old.weight) where
+  -- an entry from which a step leads stays one
+  has_set : (j toll weight : ℕ) → Has es j (λ f. f.weight + toll ≤ weight) → Has (set es i e) j (λ f. f.weight + toll ≤ weight)
+  has_set j toll weight h = elim (eqb_tells i j) [
     | inl q ↦
         let same : old ≡ h.entry = same_Some old h.entry (sym at_old ∙ ap (slice_get es) q.1 ∙ h.at) in
-        let below : old.depth < depth = subst (λ (x : Entry). x.depth < depth) (sym same) h.holds in
+        let below : old.weight + toll ≤ weight = subst (λ (x : Entry). x.weight + toll ≤ weight) (sym same) h.holds in
         record { entry = e; at = ap (slice_get (set es i e)) (sym q.1) ∙ at_set_same es i e old at_old; holds = omega (arith, below, less) }
     | inr q ↦ record { entry = h.entry; at = at_set_other es i j e q.1 ∙ h.at; holds = h.holds }
   ]
 
-  comes_set : (j depth : ℕ) (from : Option (StateId × ActionId)) → Comes es j depth from → Comes (set es i e) j depth from
-  comes_set j depth None h = h
-  comes_set j depth (Some from) h = has_set from.0.n depth h
+  comes_set : (j weight : ℕ) (from : Option Step) → Comes es j weight from → Comes (set es i e) j weight from
+  comes_set j weight None h = h
+  comes_set j weight (Some step) h = (h.0, has_set step.parent.n step.toll weight h.1)
 
-  comes_written : (from : Option (StateId × ActionId)) → MayCome es e.depth from → Comes (set es i e) i e.depth from
+  comes_written : (from : Option Step) → MayCome es e.weight from → Comes (set es i e) i e.weight from
   comes_written None h = absurd (none-some old (sym (ap (λ xs. slice_get xs i) h.0) ∙ at_old))
-  comes_written (Some from) h = has_set from.0.n e.depth h
+  comes_written (Some step) h = (h.0, has_set step.parent.n step.toll e.weight h.1)
 
-  pub tree_set : IsTree es → MayCome es e.depth e.from → IsTree (set es i e)
+  pub tree_set : IsTree es → MayCome es e.weight e.from → IsTree (set es i e)
   tree_set tree comes j f at = ⊎_elim
       (λ (h : (i ≡ j) × (e ≡ f)).
-      subst (λ (g : Entry). Comes (set es i e) j g.depth g.from) h.1 (subst (λ n. Comes (set es i e) n e.depth e.from) h.0 (comes_written e.from comes)))
-      (λ (h : (i ≢ j) × (slice_get es j ≡ Some f)). comes_set j f.depth f.from (tree j f h.1))
+      subst (λ (g : Entry). Comes (set es i e) j g.weight g.from) h.1 (subst (λ n. Comes (set es i e) n e.weight e.from) h.0 (comes_written e.from comes)))
+      (λ (h : (i ≢ j) × (slice_get es j ≡ Some f)). comes_set j f.weight f.from (tree j f h.1))
       (at_set_cases es i j e f at)
 
   pub distinct_set : AreDistinct es → e.canon ≡ old.canon → AreDistinct (set es i e)

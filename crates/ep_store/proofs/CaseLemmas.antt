@@ -6,7 +6,7 @@ use Rattle.indexmap.specs.IndexMap.{set_value_at}
 use Rattle.std.proofs.lemmas.List.{length_push}
 use Rattle.std.proofs.lemmas.Option.{same_Some}
 use Rattle.ep_theory.specs.Kripke.{Kripke, IsState}
-use Rattle.ep_canon.specs.Bytes.{bytes_of}
+use Rattle.ep_bytes.specs.Bytes.{bytes_of}
 use Rattle.ep_store.specs.declared.entry.Entry.{Entry}
 use Rattle.ep_store.specs.Stored.{Stored, Lacks, AreDistinct, MayCome, IsNew, IsBetter, IsKnown, IsFull}
 use Rattle.ep_store.specs.Inside.{IsStore, IsTree}
@@ -27,13 +27,13 @@ length-set_value (p ∷ ps) zero e = refl
 length-set_value (p ∷ ps) (suc i) e = ap suc (length-set_value ps i e)
 
 -- a written entry has the state of the one before it
-with_state : (f e w : Entry) → f.canon ≡ e.canon → w ≡ record f { depth = e.depth; from = e.from } → w ≡ e
-with_state f e w same h = h ∙ (λ j. record { canon = same j; depth = e.depth; from = e.from })
+with_state : (f e w : Entry) → f.canon ≡ e.canon → w ≡ record f { weight = e.weight; from = e.from } → w ≡ e
+with_state f e w same h = h ∙ (λ j. record { canon = same j; weight = e.weight; from = e.from })
 
 module _ (limit : ℕ) (ps : List Pair) (kept : IsStore limit ps) where
-  -- an entry that takes a lesser depth
-  module _ (i : ℕ) (f e w : Entry) (at : slice_get (values_of ps) i ≡ Some f) (same : f.canon ≡ e.canon) (is : w ≡ record f { depth = e.depth; from = e.from }) (less : e.depth < f.depth) where
-    keeps_better : MayCome (values_of ps) e.depth e.from → IsStore limit (set_value_at ps i e)
+  -- an entry that takes a lesser weight
+  module _ (i : ℕ) (f e w : Entry) (at : slice_get (values_of ps) i ≡ Some f) (same : f.canon ≡ e.canon) (is : w ≡ record f { weight = e.weight; from = e.from }) (less : e.weight < f.weight) where
+    keeps_better : MayCome (values_of ps) e.weight e.from → IsStore limit (set_value_at ps i e)
     keeps_better comes = record {
       room = omega (arith, length-set_value ps i e, kept.room);
       tree = subst IsTree (sym (values-set ps i e)) (tree_set (values_of ps) i f e at less kept.tree comes);
@@ -41,7 +41,7 @@ module _ (limit : ℕ) (ps : List Pair) (kept : IsStore limit ps) where
       keyed = keyed_set ps i f e kept.keyed at (sym same);
     }
 
-    pub better_kept : MayCome (values_of ps) e.depth e.from → IsStore limit (set_value_at ps i w)
+    pub better_kept : MayCome (values_of ps) e.weight e.from → IsStore limit (set_value_at ps i w)
     better_kept comes = subst (λ (x : Entry). IsStore limit (set_value_at ps i x)) (sym (with_state f e w same is)) (keeps_better comes)
 
     pub is_better : IsBetter (stored limit ps) e i (stored limit (set_value_at ps i w))
@@ -59,7 +59,7 @@ module _ (limit : ℕ) (ps : List Pair) (kept : IsStore limit ps) where
     pub known_kept : IsStore limit (set_value_at ps i w)
     known_kept = subst (IsStore limit) (sym unchanged) kept
 
-    pub is_known : (e : Entry) → f.canon ≡ e.canon → f.depth ≤ e.depth → IsKnown (stored limit ps) e i (stored limit (set_value_at ps i w))
+    pub is_known : (e : Entry) → f.canon ≡ e.canon → f.weight ≤ e.weight → IsKnown (stored limit ps) e i (stored limit (set_value_at ps i w))
     is_known e same few = record {
       there = record { entry = f; at = at; holds = same };
       not_greater = record { entry = f; at = at; holds = few };
@@ -68,7 +68,7 @@ module _ (limit : ℕ) (ps : List Pair) (kept : IsStore limit ps) where
 
   -- a state that goes last
   module _ (key : Vec ℕ Global) (e : Entry) (lacks : Lacks (values_of ps) e.canon) (room : length ps < limit) where
-    pub new_kept : key.items ≡ bytes_of e.canon → IsState e.canon → MayCome (values_of ps) e.depth e.from → IsStore limit (ps ++ (key, e) ∷ [])
+    pub new_kept : key.items ≡ bytes_of e.canon → IsState e.canon → MayCome (values_of ps) e.weight e.from → IsStore limit (ps ++ (key, e) ∷ [])
     new_kept own valid comes = record {
       room = omega (arith, length_push ps (key, e), room);
       tree = subst IsTree (sym (values-push ps (key, e))) (tree_push (values_of ps) e kept.tree comes);

@@ -10,8 +10,8 @@ use Rattle.std.proofs.lemmas.Map.{lookup-none, none_passes_from_lookup}
 use Rattle.std.proofs.lemmas.Option.{same_Some, none-some, slice_get-get_or}
 use Rattle.std.proofs.lemmas.Slice.Eq.{bytes_eq-Decides}
 use Rattle.ep_theory.specs.Kripke.{Kripke, IsState}
-use Rattle.ep_canon.specs.Bytes.{bytes_of}
-use Rattle.ep_canon.proofs.CallerLemmas.{same_bytes}
+use Rattle.ep_bytes.specs.Bytes.{bytes_of}
+use Rattle.ep_bytes.proofs.CallerLemmas.{same_bytes}
 use Rattle.ep_store.specs.declared.entry.Entry.{Entry}
 use Rattle.ep_store.specs.Stored.{Has, Lacks}
 use Rattle.ep_store.specs.Inside.{IsKeyed, is_key}

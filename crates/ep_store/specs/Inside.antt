@@ -1,22 +1,21 @@
 -- What a store keeps of its entries and their keys.
-use Rattle.std.specs.Prelude.{◌≡◌, ℕ, ◌<◌, ◌≤◌, Bool, List, length, Vec, Option, Some, None, nat_eq, slice_get}
+use Rattle.std.specs.Prelude.{◌≡◌, ℕ, ◌+◌, ◌≤◌, Bool, List, length, Vec, Option, Some, None, nat_eq, slice_get}
 use Rattle.std.specs.Map.{values_of}
 use Rattle.std.specs.Cmp.Lexicographic.{pointwise}
 use Rattle.std.specs.declared.alloc.Global.{Global}
-use Rattle.ep_logic.specs.declared.ids.StateId.{StateId}
-use Rattle.ep_logic.specs.declared.ids.ActionId.{ActionId}
 use Rattle.ep_theory.specs.Kripke.{IsState}
-use Rattle.ep_canon.specs.Bytes.{bytes_of}
+use Rattle.ep_bytes.specs.Bytes.{bytes_of}
+use Rattle.ep_store.specs.declared.entry.Step.{Step}
 use Rattle.ep_store.specs.declared.entry.Entry.{Entry}
 use Rattle.ep_store.specs.Stored.{Has, AreDistinct}
 
--- an entry comes from one of lesser depth, or it is the first, at depth 0
-abbrev pub Comes : List Entry → ℕ → ℕ → Option (StateId × ActionId) → Type 0
-Comes es i depth None = (i ≡ 0) × (depth ≡ 0)
-Comes es i depth (Some from) = Has es from.0.n (λ e. e.depth < depth)
+-- an entry comes by a step from one whose weight is less by the toll or more, or it is the first, at weight 0
+abbrev pub Comes : List Entry → ℕ → ℕ → Option Step → Type 0
+Comes es i weight None = (i ≡ 0) × (weight ≡ 0)
+Comes es i weight (Some step) = (1 ≤ step.toll) × Has es step.parent.n (λ e. e.weight + step.toll ≤ weight)
 
 abbrev pub IsTree : List Entry → Type 0
-IsTree es = (i : ℕ) (e : Entry) → slice_get es i ≡ Some e → Comes es i e.depth e.from
+IsTree es = (i : ℕ) (e : Entry) → slice_get es i ≡ Some e → Comes es i e.weight e.from
 
 -- each key is the bytes of its entry's state
 abbrev pub IsKeyed : List (Vec ℕ Global × Entry) → Type 0

@@ -1,8 +1,7 @@
 -- What a store holds. This project's own.
-use Rattle.std.specs.Prelude.{◌≡◌, ℕ, ◌<◌, ◌≤◌, List, [], ◌∷◌, ◌++◌, length, Option, Some, None, slice_get, slice_set}
-use Rattle.ep_logic.specs.declared.ids.StateId.{StateId}
-use Rattle.ep_logic.specs.declared.ids.ActionId.{ActionId}
+use Rattle.std.specs.Prelude.{◌≡◌, ℕ, ◌<◌, ◌≤◌, ◌+◌, List, [], ◌∷◌, ◌++◌, length, sum_by, Option, Some, None, slice_get, slice_set}
 use Rattle.ep_theory.specs.Kripke.{Kripke}
+use Rattle.ep_store.specs.declared.entry.Step.{Step}
 use Rattle.ep_store.specs.declared.entry.Entry.{Entry}
 use Rattle.ep_store.specs.declared.entry.Added.{Added}
 use Rattle.ep_store.specs.declared.entry.Added.TheVariants.{New, Better, Known}
@@ -28,10 +27,11 @@ Lacks es C = (i : ℕ) (e : Entry) → slice_get es i ≡ Some e → e.canon ≡
 abbrev pub AreDistinct : List Entry → Type 0
 AreDistinct es = (i j : ℕ) (e f : Entry) → slice_get es i ≡ Some e → slice_get es j ≡ Some f → e.canon ≡ f.canon → i ≡ j
 
--- The first entry comes from nowhere, at depth 0; every other state comes from an entry of lesser depth.
-abbrev pub MayCome : List Entry → ℕ → Option (StateId × ActionId) → Type 0
-MayCome es depth None = (es ≡ []) × (depth ≡ 0)
-MayCome es depth (Some from) = Has es from.0.n (λ e. e.depth < depth)
+-- The first entry comes from nowhere, at weight 0. Every other state comes by a step with a toll of at least 1 from an
+-- entry, whose weight and the toll are at most its own weight.
+abbrev pub MayCome : List Entry → ℕ → Option Step → Type 0
+MayCome es weight None = (es ≡ []) × (weight ≡ 0)
+MayCome es weight (Some step) = (1 ≤ step.toll) × Has es step.parent.n (λ e. e.weight + step.toll ≤ weight)
 
 -- a state that no entry has goes last, where there is room
 pub record IsNew (old : Stored) (e : Entry) (id : ℕ) (new : Stored) : Type 0 where
@@ -40,16 +40,16 @@ pub record IsNew (old : Stored) (e : Entry) (id : ℕ) (new : Stored) : Type 0 w
   pub place : id ≡ length old.entries
   pub after : new ≡ record old { entries = old.entries ++ e ∷ [] }
 
--- an entry has the state with a greater depth, and takes the depth, the parent and the action
+-- an entry has the state with a greater weight, and takes the weight and the step
 pub record IsBetter (old : Stored) (e : Entry) (id : ℕ) (new : Stored) : Type 0 where
   pub there : Has old.entries id (λ f. f.canon ≡ e.canon)
-  pub greater : Has old.entries id (λ f. e.depth < f.depth)
+  pub greater : Has old.entries id (λ f. e.weight < f.weight)
   pub after : new ≡ record old { entries = slice_set old.entries id e }
 
--- an entry has the state with no greater depth, and nothing changes
+-- an entry has the state with no greater weight, and nothing changes
 pub record IsKnown (old : Stored) (e : Entry) (id : ℕ) (new : Stored) : Type 0 where
   pub there : Has old.entries id (λ f. f.canon ≡ e.canon)
-  pub not_greater : Has old.entries id (λ f. f.depth ≤ e.depth)
+  pub not_greater : Has old.entries id (λ f. f.weight ≤ e.weight)
   pub after : new ≡ old
 
 -- no entry has the state, there is no room, and nothing changes
@@ -74,7 +74,11 @@ abbrev pub IsWant : Kripke → StoreError → Type 0
 IsWant C (Full D) = ⊥
 IsWant C (OutOfMemory D) = D ≡ C
 
--- the actions along the parents from the first entry to the entry at a place
-pub data IsPath (es : List Entry) : ℕ → List ActionId → Type 0 where
+-- the steps along the parents from the first entry to the entry at a place
+pub data IsPath (es : List Entry) : ℕ → List Step → Type 0 where
   start : (i : ℕ) (e : Entry) → slice_get es i ≡ Some e → e.from ≡ None → IsPath es i []
-  step : (i : ℕ) (e : Entry) (p : StateId) (a : ActionId) (xs : List ActionId) → slice_get es i ≡ Some e → e.from ≡ Some (p, a) → IsPath es p.n xs → IsPath es i (xs ++ a ∷ [])
+  more : (i : ℕ) (e : Entry) (step : Step) (path : List Step) → slice_get es i ≡ Some e → e.from ≡ Some step → IsPath es step.parent.n path → IsPath es i (path ++ step ∷ [])
+
+-- what the tolls of steps add up to
+abbrev pub toll_sum : List Step → ℕ
+toll_sum steps = sum_by (λ step. step.toll) steps

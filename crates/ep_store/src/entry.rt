@@ -7,19 +7,27 @@ use ep_canon::Canon;
 use ep_logic::{ActionId, StateId};
 use std::fmt;
 
-/// A state, the depth at which it was met, and the entry and the action that it was made by.
+/// An action that was done in the state of an entry, and what it adds to the weight: at least 1.
+#[derive(Clone, Copy)]
+pub struct Step {
+    pub parent: StateId,
+    pub action: ActionId,
+    pub toll: u32,
+}
+
+/// A state, the weight at which it was met, and the step that it was made by, if it is not the first.
 #[derive(Drop)]
 pub struct Entry {
     pub canon: Canon,
-    pub depth: u32,
-    pub from: Option<(StateId, ActionId)>,
+    pub weight: u32,
+    pub from: Option<Step>,
 }
 
 /// The entry that has the state, and what became of it.
 #[derive(Clone, Copy)]
 pub enum Added {
     New(StateId),
-    /// It had the state with a greater depth.
+    /// It had the state with a greater weight.
     Better(StateId),
     Known(StateId),
 }
@@ -43,14 +51,14 @@ impl fmt::Display for StoreError {
 
 impl std::error::Error for StoreError {}
 
-// Takes the depth and the parent, if the depth is less. Whether it is.
-pub(crate) fn improve(entry: &mut Entry, depth: u32, from: Option<(StateId, ActionId)>) -> bool
-    ensures less { MatchBool result (depth < entry.old.depth) (entry.old.depth ≤ depth) }
-    ensures after { entry.new ≡ (if result then record entry.old { depth = depth; from = from } else entry.old) }
+// Takes the weight and the step, if the weight is less. Whether it is.
+pub(crate) fn improve(entry: &mut Entry, weight: u32, from: Option<Step>) -> bool
+    ensures less { MatchBool result (weight < entry.old.weight) (entry.old.weight ≤ weight) }
+    ensures after { entry.new ≡ (if result then record entry.old { weight = weight; from = from } else entry.old) }
 {
-    let less = depth < entry.depth;
+    let less = weight < entry.weight;
     if less {
-        entry.depth = depth;
+        entry.weight = weight;
         entry.from = from;
     }
     less

@@ -4,5 +4,5 @@
 mod entry;
 mod store;
 
-pub use entry::{Added, Entry, StoreError};
+pub use entry::{Added, Entry, Step, StoreError};
 pub use store::Store;

@@ -3,18 +3,18 @@
 ghost use Rattle.std.specs.Prelude.{◌≡◌, [], ◌∷◌, ◌++◌, ◌<◌, ◌≤◌, length, None, IfErr, IfOk, OnErr, OnOk};
 ghost use Rattle.std.specs.Map.{lookup};
 ghost use Rattle.ep_theory.specs.Kripke.{IsState};
-ghost use Rattle.ep_canon.specs.Bytes.{bytes_of};
-ghost use Rattle.ep_store.specs.Stored.{Has, Lacks, AreDistinct, MayCome, IsAdded, IsRefused, IsWant, IsPath};
+ghost use Rattle.ep_bytes.specs.Bytes.{bytes_of};
+ghost use Rattle.ep_store.specs.Stored.{Has, Lacks, AreDistinct, MayCome, IsAdded, IsRefused, IsWant, IsPath, toll_sum};
 ghost use Rattle.ep_store.specs.Inside.{is_key};
 
-use crate::entry::{Added, Entry, StoreError, improve};
+use crate::entry::{Added, Entry, Step, StoreError, improve};
 use ep_canon::Canon;
-use ep_logic::{ActionId, List, OutOfMemory, StateId};
+use ep_logic::{List, OutOfMemory, StateId};
 use indexmap::IndexMap;
 use std::alloc::Global;
 use std::marker::Model;
 
-/// Canonical states, each once, in the order in which they were stored, each with the least depth at which it was
+/// Canonical states, each once, in the order in which they were stored, each with the least weight at which it was
 /// met. Its keys are the canonical bytes. This project's own.
 pub struct Store {
     limit: u32,
@@ -73,23 +73,23 @@ impl Store {
         &self.map[id.n as usize].canon
     }
 
-    pub fn depth(&self, id: StateId) -> u32
+    pub fn weight(&self, id: StateId) -> u32
         requires { id.n < length self.now.entries }
-        ensures { Has self.now.entries id.n (λ e. result ≡ e.depth) }
+        ensures { Has self.now.entries id.n (λ e. result ≡ e.weight) }
     {
-        self.map[id.n as usize].depth
+        self.map[id.n as usize].weight
     }
 
-    /// Stores a state that was met at a depth, by an action from an entry, or a lesser depth of a state that is
-    /// there. Only the first state comes from no entry. A refusal hands the state back.
+    /// Stores a state that was met at a weight, by a step from an entry, or a lesser weight of a state that is there.
+    /// Only the first state comes from no entry. A refusal hands the state back.
     pub fn add(
         &mut self,
         canon: Canon,
-        depth: u32,
-        from: Option<(StateId, ActionId)>,
+        weight: u32,
+        from: Option<Step>,
     ) -> Result<Added, StoreError>
-        requires { MayCome self.old.entries depth from }
-        ensures added { IfOk result (λ r. IsAdded self.old (record { canon = canon; depth = depth; from = from }) r self.new) }
+        requires { MayCome self.old.entries weight from }
+        ensures added { IfOk result (λ r. IsAdded self.old (record { canon = canon; weight = weight; from = from }) r self.new) }
         ensures refused { IfErr result (λ r. IsRefused self.old canon r self.new) }
     {
         let key = match canon.bytes(self.alloc) {
@@ -99,13 +99,20 @@ impl Store {
         match self.map.get_index_of(key.as_slice()) {
             Some(at) => {
                 let id = StateId { n: at as u32 };
-                if improve(&mut self.map[at], depth, from) {
+                if improve(&mut self.map[at], weight, from) {
                     Ok(Added::Better(id))
                 } else {
                     Ok(Added::Known(id))
                 }
             }
-            None => self.put(key, Entry { canon, depth, from }),
+            None => self.put(
+                key,
+                Entry {
+                    canon,
+                    weight,
+                    from,
+                },
+            ),
         }
     }
 
@@ -114,7 +121,7 @@ impl Store {
         requires key { key.items ≡ bytes_of entry.canon }
         requires valid { IsState entry.canon }
         requires absent { Lacks self.old.entries entry.canon }
-        requires comes { MayCome self.old.entries entry.depth entry.from }
+        requires comes { MayCome self.old.entries entry.weight entry.from }
         ensures added { IfOk result (λ r. IsAdded self.old entry r self.new) }
         ensures refused { IfErr result (λ r. IsRefused self.old entry.canon r self.new) }
     {
@@ -126,20 +133,20 @@ impl Store {
         Ok(Added::New(StateId { n: count as u32 }))
     }
 
-    /// The actions along the parents, from the first entry to this one.
-    pub fn path(&self, id: StateId) -> Result<List<ActionId>, OutOfMemory>
+    /// The steps along the parents, from the first entry to this one.
+    pub fn path(&self, id: StateId) -> Result<List<Step>, OutOfMemory>
         requires { id.n < length self.now.entries }
         ensures path { IfOk result (IsPath self.now.entries id.n) }
-        ensures short { IfOk result (λ p. Has self.now.entries id.n (λ e. length p ≤ e.depth)) }
+        ensures tolls { IfOk result (λ p. Has self.now.entries id.n (λ e. toll_sum p ≤ e.weight)) }
     {
-        let mut actions = Vec::new(self.alloc);
+        let mut path = Vec::new(self.alloc);
         let mut at = id;
-        while let Some((parent, action)) = self.map[at.n as usize].from {
-            actions.push(action)?;
-            at = parent;
+        while let Some(step) = self.map[at.n as usize].from {
+            path.push(step)?;
+            at = step.parent;
         }
-        actions.reverse();
-        Ok(List::from_vec(actions))
+        path.reverse();
+        Ok(List::from_vec(path))
     }
 }
 

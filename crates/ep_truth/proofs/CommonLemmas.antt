@@ -95,67 +95,83 @@ linked_before-le : (ps : List (ℕ × ℕ)) (w : ℕ) → linked_before ps w ≤
 linked_before-le [] w = omega arith
 linked_before-le (p ∷ ps) w = let r = linked_before-le ps w in grind (arith, nat_tests)
 
--- how far the links of an agent are added: those from the worlds below w
-pub record IsAdding (S : Kripke) (a : ℕ) (old : List (List ℕ)) (w : ℕ) (rows : List (List ℕ)) : Type 0 where
+-- how far the links of an agent are added: those from the worlds of the row below w
+pub record IsAdding (S : Kripke) (a : ℕ) (inner : List Bool) (old : List (List ℕ)) (w : ℕ) (rows : List (List ℕ)) : Type 0 where
   pub long : length rows ≡ S.worlds
   pub counted : sum_by length rows ≤ sum_by length old + linked_before (links_of S a) w
-  pub gained : (x v : ℕ) → v < S.worlds → IsIn x (row_at rows v) ↔ (IsIn x (row_at old v) ⊎ ((x < w) × IsIn (x, v) (links_of S a)))
+  pub gained : (x v : ℕ) → v < S.worlds → IsIn x (row_at rows v) ↔ (IsIn x (row_at old v) ⊎ ((x < w) × IsTrue (value_at inner x) × IsIn (x, v) (links_of S a)))
 
-module _ (S : Kripke) (s : IsState S) (a : ℕ) (old : List (List ℕ)) where
+module _ (S : Kripke) (s : IsState S) (a : ℕ) (inner : List Bool) (old : List (List ℕ)) where
   targets_within : (w v : ℕ) → IsIn v (successors (links_of S a) w) → v < S.worlds
   targets_within w v i = (links_within S s a w v (from_successors w v (links_of S a) i)).1
 
-  pub adding_none : length old ≡ S.worlds → IsAdding S a old 0 old
+  pub adding_none : length old ≡ S.worlds → IsAdding S a inner old 0 old
   adding_none e = record {
     long = e;
     counted = omega arith;
     gained = λ x v l. (λ i. inl i, λ h. elim h [ inl i ↦ i | inr p ↦ absurd (omega (arith, p.0)) ]);
   }
 
-  pub adding_more : (w : ℕ) (rows new : List (List ℕ)) → IsAdding S a old w rows → new ≡ with_sources rows w (successors (links_of S a) w) → IsAdding S a old (w + 1) new
-  adding_more w rows new t e =
+  pub adding_skip : (w : ℕ) (rows : List (List ℕ)) → value_at inner w ≡ false → IsAdding S a inner old w rows → IsAdding S a inner old (w + 1) rows
+  adding_skip w rows f t = record {
+    long = t.long;
+    counted = omega (arith, t.counted, linked_before-more (links_of S a) w);
+    gained = λ x v l. (
+      λ i. elim ((t.gained x v l).0 i) [ inl j ↦ inl j | inr p ↦ inr (omega (arith, p.0), p.1, p.2) ],
+      λ h. elim h [
+        | inl j ↦ (t.gained x v l).1 (inl j)
+        | inr p ↦ elim (last_or_before x w (omega (arith, p.0))) [
+          | inl q ↦ absurd (cc (p.1, ap (value_at inner) q, f))
+          | inr q ↦ (t.gained x v l).1 (inr (q, p.1, p.2))
+        ]
+      ],
+    );
+  }
+
+  pub adding_more : (w : ℕ) (rows new : List (List ℕ)) → IsTrue (value_at inner w) → IsAdding S a inner old w rows → new ≡ with_sources rows w (successors (links_of S a) w) → IsAdding S a inner old (w + 1) new
+  adding_more w rows new here t e =
       let tos = successors (links_of S a) w in
       let below : (v : ℕ) → IsIn v tos → v < length rows = λ v i. subst (λ n. v < n) (sym t.long) (targets_within w v i) in
-      subst (IsAdding S a old (w + 1)) (sym e) (record {
+      subst (IsAdding S a inner old (w + 1)) (sym e) (record {
         long = length-with_sources w rows tos ∙ t.long;
         counted = omega (arith, t.counted, sum-with_sources w rows tos below, linked_before-more (links_of S a) w);
         gained = λ x v l. (
           λ i. elim (from_with_sources w rows tos x v below i) [
-            | inl j ↦ elim ((t.gained x v l).0 j) [ inl k ↦ inl k | inr p ↦ inr (omega (arith, p.0), p.1) ]
-            | inr p ↦ inr (omega (arith, p.0), subst (λ y. IsIn {A = ℕ × ℕ} (y, v) (links_of S a)) (sym p.0) (from_successors w v (links_of S a) p.1))
+            | inl j ↦ elim ((t.gained x v l).0 j) [ inl k ↦ inl k | inr p ↦ inr (omega (arith, p.0), p.1, p.2) ]
+            | inr p ↦ inr (omega (arith, p.0), subst (λ y. IsTrue (value_at inner y)) (sym p.0) here, subst (λ y. IsIn {A = ℕ × ℕ} (y, v) (links_of S a)) (sym p.0) (from_successors w v (links_of S a) p.1))
           ],
           λ h. elim h [
             | inl k ↦ old_with_sources w rows tos x v below ((t.gained x v l).1 (inl k))
-            | inr p ↦ last x v l p.0 p.1 below
+            | inr p ↦ last x v l p.0 p.1 p.2 below
           ],
         );
       })
     where
-      last : (x v : ℕ) → v < S.worlds → x < w + 1 → IsIn {A = ℕ × ℕ} (x, v) (links_of S a) →
+      last : (x v : ℕ) → v < S.worlds → x < w + 1 → IsTrue (value_at inner x) → IsIn {A = ℕ × ℕ} (x, v) (links_of S a) →
           ((v : ℕ) → IsIn v (successors (links_of S a) w) → v < length rows) → IsIn x (row_at (with_sources rows w (successors (links_of S a) w)) v)
-      last x v l b i below = elim (last_or_before x w (omega (arith, b))) [
+      last x v l b in_row i below = elim (last_or_before x w (omega (arith, b))) [
         | inl q ↦ subst (λ y. IsIn y (row_at (with_sources rows w (successors (links_of S a) w)) v)) (sym q)
             (new_with_sources w rows (successors (links_of S a) w) v below (IsIn-successors w v (links_of S a) (subst (λ y. IsIn {A = ℕ × ℕ} (y, v) (links_of S a)) q i)))
-        | inr q ↦ old_with_sources w rows (successors (links_of S a) w) x v below ((t.gained x v l).1 (inr (q, i)))
+        | inr q ↦ old_with_sources w rows (successors (links_of S a) w) x v below ((t.gained x v l).1 (inr (q, in_row, i)))
       ]
 
-  pub adding_room : (w : ℕ) (rows : List (List ℕ)) → IsAdding S a old w rows → sum_by length rows + length (successors (links_of S a) w) ≤ sum_by length old + length (links_of S a)
+  pub adding_room : (w : ℕ) (rows : List (List ℕ)) → IsAdding S a inner old w rows → sum_by length rows + length (successors (links_of S a) w) ≤ sum_by length old + length (links_of S a)
   adding_room w rows t = omega (arith, t.counted, linked_before-more (links_of S a) w, linked_before-le (links_of S a) (w + 1))
 
-  pub adding_all : (w : ℕ) (rows : List (List ℕ)) → w ≡ S.worlds → IsAdding S a old w rows → GainsLinks S a old rows
+  pub adding_all : (w : ℕ) (rows : List (List ℕ)) → w ≡ S.worlds → IsAdding S a inner old w rows → GainsLinks S a inner old rows
   adding_all w rows e t = λ x v l. (
-    λ i. elim ((t.gained x v l).0 i) [ inl k ↦ inl k | inr p ↦ inr p.1 ],
-    λ h. elim h [ inl k ↦ (t.gained x v l).1 (inl k) | inr j ↦ (t.gained x v l).1 (inr (omega (arith, e, (links_within S s a x v j).0), j)) ],
+    λ i. elim ((t.gained x v l).0 i) [ inl k ↦ inl k | inr p ↦ inr (p.1, p.2) ],
+    λ h. elim h [ inl k ↦ (t.gained x v l).1 (inl k) | inr p ↦ (t.gained x v l).1 (inr (omega (arith, e, (links_within S s a x v p.1).0), p.0, p.1)) ],
   )
 
-  pub adding_counted : (w : ℕ) (rows : List (List ℕ)) → IsAdding S a old w rows → sum_by length rows ≤ sum_by length old + length (links_of S a)
+  pub adding_counted : (w : ℕ) (rows : List (List ℕ)) → IsAdding S a inner old w rows → sum_by length rows ≤ sum_by length old + length (links_of S a)
   adding_counted w rows t = omega (arith, t.counted, linked_before-le (links_of S a) w)
 
 -- how far the links of a group are added: those of its agents below a
-pub record IsGathering (S : Kripke) (g : List Bool) (a : ℕ) (rows : List (List ℕ)) : Type 0 where
+pub record IsGathering (S : Kripke) (g inner : List Bool) (a : ℕ) (rows : List (List ℕ)) : Type 0 where
   pub long : length rows ≡ S.worlds
   pub counted : sum_by length rows ≤ sum_by length (take a S.links)
-  pub led : (x v : ℕ) → v < S.worlds → IsIn x (row_at rows v) ↔ ((b : ℕ) × (b < a) × Has g b × IsIn (x, v) (links_of S b))
+  pub led : (x v : ℕ) → v < S.worlds → IsIn x (row_at rows v) ↔ ((b : ℕ) × (b < a) × Has g b × IsTrue (value_at inner x) × IsIn (x, v) (links_of S b))
 
 nobody : (g : List Bool) (a : ℕ) → IsTrue (is_nobody g) → Has g a → ⊥
 nobody [] a h m = cc m
@@ -164,7 +180,7 @@ nobody (false ∷ xs) zero h m = cc m
 nobody (false ∷ xs) (suc a) h m = nobody xs a h m
 
 -- a member of a group is below the number of agents
-member_below : (g : List Bool) (n a : ℕ) → IsTrue (is_nobody (drop n g)) → Has g a → a < n
+pub member_below : (g : List Bool) (n a : ℕ) → IsTrue (is_nobody (drop n g)) → Has g a → a < n
 member_below [] n a h m = absurd (cc m)
 member_below (x ∷ xs) zero a h m = absurd (nobody (x ∷ xs) a h m)
 member_below (x ∷ xs) (suc n) zero h m = omega arith
@@ -175,9 +191,9 @@ empty_row zero v = refl
 empty_row (suc n) zero = refl
 empty_row (suc n) (suc v) = empty_row n v
 
-module _ (S : Kripke) (s : IsState S) (g : List Bool) where
-  pub gathering_none : (rows : List (List ℕ)) → rows ≡ replicate S.worlds [] → IsGathering S g 0 rows
-  gathering_none rows e = subst (IsGathering S g 0) (sym e) (record {
+module _ (S : Kripke) (s : IsState S) (g inner : List Bool) where
+  pub gathering_none : (rows : List (List ℕ)) → rows ≡ replicate S.worlds [] → IsGathering S g inner 0 rows
+  gathering_none rows e = subst (IsGathering S g inner 0) (sym e) (record {
     long = length-replicate S.worlds [];
     counted = omega (arith, sum_by-replicate (length {A = ℕ}) S.worlds []);
     led = λ x v l. (λ i. absurd (subst (IsIn x) (empty_row S.worlds v) i), λ h. absurd (omega (arith, h.1)));
@@ -188,43 +204,43 @@ module _ (S : Kripke) (s : IsState S) (g : List Bool) where
       let b : a < length S.links = omega (arith, l, s.relations) in
       ap (sum_by length) (take_more S.links a [] b) ∙ sum_by-append length (take a S.links) (links_of S a ∷ []) ∙ omega arith
 
-  pub gathering_skip : (a : ℕ) (rows : List (List ℕ)) → a < S.agents → (Has g a → ⊥) → IsGathering S g a rows → IsGathering S g (a + 1) rows
+  pub gathering_skip : (a : ℕ) (rows : List (List ℕ)) → a < S.agents → (Has g a → ⊥) → IsGathering S g inner a rows → IsGathering S g inner (a + 1) rows
   gathering_skip a rows l n t = record {
     long = t.long;
     counted = omega (arith, t.counted, take_links a l);
     led = λ x v b. (
-      λ i. let h = (t.led x v b).0 i in (h.0, omega (arith, h.1), h.2, h.3),
+      λ i. let h = (t.led x v b).0 i in (h.0, omega (arith, h.1), h.2, h.3, h.4),
       λ h. elim (last_or_before h.0 a (omega (arith, h.1))) [
         | inl q ↦ absurd (n (subst (Has g) q h.2))
-        | inr q ↦ (t.led x v b).1 (h.0, q, h.2, h.3)
+        | inr q ↦ (t.led x v b).1 (h.0, q, h.2, h.3, h.4)
       ],
     );
   }
 
-  pub gathering_room : (a : ℕ) (rows : List (List ℕ)) → a < S.agents → IsGathering S g a rows → sum_by length rows + length (links_of S a) ≤ link_count S
+  pub gathering_room : (a : ℕ) (rows : List (List ℕ)) → a < S.agents → IsGathering S g inner a rows → sum_by length rows + length (links_of S a) ≤ link_count S
   gathering_room a rows l t = omega (arith, t.counted, take_links a l, sum_by-take-le length S.links (a + 1))
 
-  pub gathering_more : (a : ℕ) (rows new : List (List ℕ)) → a < S.agents → Has g a → IsGathering S g a rows → length new ≡ S.worlds →
-      sum_by length new ≤ sum_by length rows + length (links_of S a) → GainsLinks S a rows new → IsGathering S g (a + 1) new
+  pub gathering_more : (a : ℕ) (rows new : List (List ℕ)) → a < S.agents → Has g a → IsGathering S g inner a rows → length new ≡ S.worlds →
+      sum_by length new ≤ sum_by length rows + length (links_of S a) → GainsLinks S a inner rows new → IsGathering S g inner (a + 1) new
   gathering_more a rows new l m t e c f = record {
     long = e;
     counted = omega (arith, t.counted, take_links a l, c);
     led = λ x v b. (
       λ i. elim ((f x v b).0 i) [
-        | inl j ↦ let h = (t.led x v b).0 j in (h.0, omega (arith, h.1), h.2, h.3)
-        | inr j ↦ (a, omega arith, m, j)
+        | inl j ↦ let h = (t.led x v b).0 j in (h.0, omega (arith, h.1), h.2, h.3, h.4)
+        | inr p ↦ (a, omega arith, m, p.0, p.1)
       ],
       λ h. elim (last_or_before h.0 a (omega (arith, h.1))) [
-        | inl q ↦ (f x v b).1 (inr (subst (λ c. IsIn (x, v) (links_of S c)) q h.3))
-        | inr q ↦ (f x v b).1 (inl ((t.led x v b).1 (h.0, q, h.2, h.3)))
+        | inl q ↦ (f x v b).1 (inr (h.3, subst (λ c. IsIn (x, v) (links_of S c)) q h.4))
+        | inr q ↦ (f x v b).1 (inl ((t.led x v b).1 (h.0, q, h.2, h.3, h.4)))
       ],
     );
   }
 
-  pub gathering_all : (a : ℕ) (rows : List (List ℕ)) → a ≡ S.agents → IsTrue (is_nobody (drop S.agents g)) → IsGathering S g a rows → LeadBack S g rows
+  pub gathering_all : (a : ℕ) (rows : List (List ℕ)) → a ≡ S.agents → IsTrue (is_nobody (drop S.agents g)) → IsGathering S g inner a rows → LeadBack S g inner rows
   gathering_all a rows e n t = λ x v b. (
-    λ i. let h = (t.led x v b).0 i in (h.0, h.2, h.3),
-    λ h. (t.led x v b).1 (h.0, omega (arith, e, member_below g S.agents h.0 n h.1), h.1, h.2),
+    λ i. let h = (t.led x v b).0 i in (h.3, (h.0, h.2, h.4)),
+    λ h. (t.led x v b).1 (h.1.0, omega (arith, e, member_below g S.agents h.1.0 n h.1.1), h.1.1, h.0, h.1.2),
   )
 
 -- what holds while worlds are taken out: those that wait are out, and their sources may still be in
@@ -258,7 +274,7 @@ module _ (S : Kripke) (s : IsState S) (g inner : List Bool) where
       }))
 
   -- the sources of a world are taken out
-  pub spreading_more : (rows : List (List ℕ)) (good : List Bool) (rest : List ℕ) (v : ℕ) → LeadBack S g rows → IsSpreading S g inner good (rest ++ v ∷ []) →
+  pub spreading_more : (rows : List (List ℕ)) (good : List Bool) (rest : List ℕ) (v : ℕ) → LeadBack S g inner rows → IsSpreading S g inner good (rest ++ v ∷ []) →
       IsSpreading S g inner (without (row_at rows v) good) (rest ++ taken (row_at rows v) good)
   spreading_more rows good rest v back t = record {
     long = length-without ws good ∙ t.long;
@@ -267,7 +283,7 @@ module _ (S : Kripke) (s : IsState S) (g inner : List Bool) where
     waits = λ w u p h. after w u p h;
     out = λ u i. elim (in_parts u rest (taken ws good) i) [
       | inl j ↦ let r = t.out u (in_left u rest (v ∷ []) j) in (r.0, without_false ws good u r.1)
-      | inr j ↦ let k = from_taken ws good u j in ((step_within u v ((back u v v_within).0 k)).0, without_here ws good u k)
+      | inr j ↦ let k = from_taken ws good u j in ((step_within u v ((back u v v_within).0 k).1).0, without_here ws good u k)
     ];
   }
     where
@@ -284,7 +300,7 @@ module _ (S : Kripke) (s : IsState S) (g inner : List Bool) where
       was w h = elim (decided (value_at good w)) [ inl k ↦ k | inr k ↦ absurd (cc (h, without_false ws good w k)) ]
 
       no_source : (w : ℕ) → AllWalks S g inner w → IsIn w ws → ⊥
-      no_source w all i = cc (v_out.1, t.keeps v (λ vs p. all (v ∷ vs) ((back w v v_within).0 i, p)))
+      no_source w all i = cc (v_out.1, t.keeps v (λ vs p. all (v ∷ vs) (((back w v v_within).0 i).1, p)))
 
       after : (w u : ℕ) → IsStep S g w u → IsTrue (value_at (without ws good) w) → IsTrue (value_at (without ws good) u) ⊎ IsIn u (rest ++ taken ws good)
       after w u p h = elim (t.waits w u p (was w h)) [
@@ -295,7 +311,7 @@ module _ (S : Kripke) (s : IsState S) (g inner : List Bool) where
         | inr i ↦ elim (in_parts u rest (v ∷ []) i) [
           | inl j ↦ inr (in_left u rest (taken ws good) j)
           | inr j ↦ absurd (elim j [
-            | inl q ↦ cc (h, without_here ws good w ((back w v v_within).1 (subst (IsStep S g w) q p)))
+            | inl q ↦ cc (h, without_here ws good w ((back w v v_within).1 (t.below w (was w h), subst (IsStep S g w) q p)))
             | inr q ↦ q
           ])
         ]
@@ -327,5 +343,5 @@ unfolding weight
 weight_falls ws rest v good = omega (arith, trues-without ws good, length-append rest (taken ws good), length-append rest (v ∷ []))
 
 -- a source is a world
-pub source_within : (S : Kripke) → IsState S → (g : List Bool) (rows : List (List ℕ)) → LeadBack S g rows → (w v : ℕ) → v < S.worlds → IsIn w (row_at rows v) → w < S.worlds
-source_within S s g rows back w v l i = let p = (back w v l).0 i in (links_within S s p.0 w v p.2).0
+pub source_within : (S : Kripke) → IsState S → (g inner : List Bool) (rows : List (List ℕ)) → LeadBack S g inner rows → (w v : ℕ) → v < S.worlds → IsIn w (row_at rows v) → w < S.worlds
+source_within S s g inner rows back w v l i = let p = ((back w v l).0 i).1 in (links_within S s p.0 w v p.2).0

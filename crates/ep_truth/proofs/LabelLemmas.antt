@@ -5,7 +5,7 @@ use Rattle.std.specs.Cmp.{both_ways}
 use Rattle.std.proofs.lemmas.List.{take_more, length-replicate, get_or-replicate, length-map, get_or-map, same_lists, get_or_default}
 use Rattle.std.proofs.lemmas.List.Folds.{list_all-append, list_any-append}
 use Rattle.ep_logic.specs.Rows.{both, either, value_at}
-use Rattle.ep_logic.proofs.CallerLemmas.{both_at, both_long, either_at, either_long, length-table, get_or-table}
+use Rattle.ep_logic.proofs.CallerLemmas.{both_at, both_long, either_at, either_long, length-table, get_or-table, table-same}
 use Rattle.ep_logic.specs.declared.ids.AgentId.{AgentId}
 use Rattle.ep_logic.specs.declared.ids.AtomId.{AtomId}
 use Rattle.ep_logic.specs.declared.formula.Node.{Node}
@@ -21,18 +21,22 @@ use Rattle.ep_truth.specs.Common.{AllWalks}
 use Rattle.ep_truth.specs.Labels.{IsLabel, formula_test, all_test, any_test, atom_test, knows_test, HasValues}
 
 -- a row that tells one test tells an equal one
-HasValues-along : (n : ℕ) (p q : ℕ → Bool) (row : List Bool) → ((w : ℕ) → w < n → p w ≡ q w) → HasValues n p row → HasValues n q row
+pub HasValues-along : (n : ℕ) (p q : ℕ → Bool) (row : List Bool) → ((w : ℕ) → w < n → p w ≡ q w) → HasValues n p row → HasValues n q row
 HasValues-along n p q row h t = record { long = t.long; each = λ w l. t.each w l ∙ h w l }
+
+-- a table of a test has its values
+pub table_values : (n : ℕ) (p : ℕ → Bool) (row : List Bool) → row ≡ table p n → HasValues n p row
+table_values n p row e = record {
+  long = ap length e ∙ length-table p n;
+  each = λ w l. ap (λ r. get_or r w false) e ∙ get_or-table p n w false l;
+}
 
 -- a row of a relation's rows tells what an agent knows
 pub knows_row : (S : Kripke) (a : ℕ) (inner row : List Bool) (rows : List (List ℕ)) → length rows ≡ S.worlds → ((w : ℕ) → w < S.worlds → get_or rows w [] ≡ successors (links_of S a) w) →
-    row ≡ table (λ w. list_all (value_at inner) (get_or rows w [])) (length rows) → HasValues S.worlds (knows_test S a inner) row
-knows_row S a inner row rows long each e = record {
-  long = ap length e ∙ length-table (λ w. list_all (value_at inner) (get_or rows w [])) (length rows) ∙ long;
-  each = λ w l.
-      ap (λ r. get_or r w false) e ∙ get_or-table (λ w. list_all (value_at inner) (get_or rows w [])) (length rows) w false (omega (arith, l, long))
-      ∙ ap (list_all (value_at inner)) (each w l);
-}
+    row ≡ table (λ w. list_all (value_at inner) (get_or rows w [])) (length rows) → row ≡ table (knows_test S a inner) S.worlds
+knows_row S a inner row rows long each e =
+    let told = λ (w : ℕ). list_all (value_at inner) (get_or rows w []) in
+    e ∙ ap (table told) long ∙ table-same told (knows_test S a inner) S.worlds (λ w l. ap (list_all (value_at inner)) (each w l))
 
 pub replicate_false : (n k : ℕ) → value_at (replicate n false) k ≡ false
 replicate_false zero k = refl

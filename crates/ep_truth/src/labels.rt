@@ -62,9 +62,13 @@ fn label_and(alloc: Global, s: &State, parts: &List<Node>) -> Result<Bits, OutOf
     requires { list_all (fits_in s.now.agents s.now.atoms) parts.now ≡ true }
     ensures { IfOk result (HasValues s.now.worlds (all_test s.now parts.now)) }
 {
-    let mut row = Bits::ones(alloc, s.worlds())?;
-    for part in parts.as_slice() {
-        let next = label_node(alloc, s, part)?;
+    let parts = parts.as_slice();
+    if parts.is_empty() {
+        return Bits::ones(alloc, s.worlds());
+    }
+    let mut row = label_node(alloc, s, &parts[0])?;
+    for i in 1..parts.len() {
+        let next = label_node(alloc, s, &parts[i])?;
         row.and_with(&next);
     }
     Ok(row)
@@ -75,17 +79,22 @@ fn label_or(alloc: Global, s: &State, parts: &List<Node>) -> Result<Bits, OutOfM
     requires { list_all (fits_in s.now.agents s.now.atoms) parts.now ≡ true }
     ensures { IfOk result (HasValues s.now.worlds (any_test s.now parts.now)) }
 {
-    let mut row = Bits::zeros(alloc, s.worlds())?;
-    for part in parts.as_slice() {
-        let next = label_node(alloc, s, part)?;
+    let parts = parts.as_slice();
+    if parts.is_empty() {
+        return Bits::zeros(alloc, s.worlds());
+    }
+    let mut row = label_node(alloc, s, &parts[0])?;
+    for i in 1..parts.len() {
+        let next = label_node(alloc, s, &parts[i])?;
         row.or_with(&next);
     }
     Ok(row)
 }
 
-fn label_atom(alloc: Global, s: &State, p: AtomId) -> Result<Bits, OutOfMemory>
+/// The truth of an atom at each world.
+pub fn label_atom(alloc: Global, s: &State, p: AtomId) -> Result<Bits, OutOfMemory>
     requires { p.n < s.now.atoms }
-    ensures { IfOk result (HasValues s.now.worlds (atom_test s.now p.n)) }
+    ensures { IfOk result (λ row. row ≡ table (atom_test s.now p.n) s.now.worlds) }
 {
     let mut row = Bits::zeros(alloc, s.worlds())?;
     for w in 0..s.worlds() {
@@ -94,10 +103,11 @@ fn label_atom(alloc: Global, s: &State, p: AtomId) -> Result<Bits, OutOfMemory>
     Ok(row)
 }
 
-fn label_knows(alloc: Global, s: &State, a: AgentId, inner: &Bits) -> Result<Bits, OutOfMemory>
+/// At each world, whether the row is true wherever the agent's links lead. Each distinct row of links is looked at once.
+pub fn label_knows(alloc: Global, s: &State, a: AgentId, inner: &Bits) -> Result<Bits, OutOfMemory>
     requires agent { a.n < s.now.agents }
     requires long { length inner.now ≡ s.now.worlds }
-    ensures { IfOk result (HasValues s.now.worlds (knows_test s.now a.n inner.now)) }
+    ensures { IfOk result (λ row. row ≡ table (knows_test s.now a.n inner.now) s.now.worlds) }
 {
     s.relation(a).all_within(alloc, inner)
 }

@@ -3,16 +3,17 @@ use Rattle.std.proofs.Common.{◌≡◌, ◌≢◌, ℕ, zero, suc, ◌+◌, ◌
 use Rattle.std.proofs.lemmas.Bool.{cases_eq, ne_eqb}
 use Rattle.std.proofs.lemmas.Option.{none-some}
 use Rattle.std.proofs.lemmas.List.{take_more, length-set, get_or-set_same, get_or-set_other}
+use Rattle.std.proofs.Math.Seq.{set-append_seam}
 use Rattle.std.specs.List.{find}
 use Rattle.ep_logic.specs.declared.formula.Node.{Node}
 use Rattle.ep_logic.specs.declared.formula.Node.TheVariants.{True}
 use Rattle.ep_logic.specs.Numbers.{table}
-use Rattle.ep_theory.specs.Kripke.{Kripke}
+use Rattle.ep_theory.specs.Kripke.{Kripke, IsState, truth_of}
 use Rattle.ep_theory.specs.Events.{AreDistinct}
 use Rattle.ep_theory.specs.Product.{atom_by}
 use Rattle.ep_theory.specs.Tested.{is_true}
 use Rattle.ep_theory.proofs.CallerLemmas.{All-at, test_itself}
-use Rattle.ep_logic.proofs.CallerLemmas.{length-table, get_or-table}
+use Rattle.ep_logic.proofs.CallerLemmas.{length-table, get_or-table, get_or-last, row_is_table}
 use Rattle.ep_update.specs.Assigned.{atom_with}
 use Rattle.ep_update.proofs.NumbersWhere.{table_is}
 
@@ -50,6 +51,15 @@ absent (x ∷ sets) zero d l = refl
 absent (x ∷ sets) (suc i) d l =
     let k : i < length sets = omega arith in
     rw (ne_eqb x.0 (get_or sets i no_set).0 (All-at (λ (y : ℕ × Node). x.0 ≢ y.0) sets i no_set k d.0)) (absent sets i d.1 k)
+
+-- no assignment yet
+pub first_effect : (S : Kripke) (w : ℕ) (row : List Bool) → IsState S → w < S.worlds → row ≡ truth_of S w → row ≡ table (atom_with S w []) S.atoms
+first_effect S w row s l e = e ∙ row_is_table (atom_with S w []) S.atoms (truth_of S w)
+    (All-at (λ (t : List Bool). length t ≡ S.atoms) S.truth w [] (omega (arith, l, s.truths)) s.each_truth) (λ i l. refl)
+
+-- a value that is changed in the last row
+pub set_last : (xs : List (List Bool)) (t : List Bool) (rows : List (List Bool)) (n i : ℕ) (v : Bool) → rows ≡ xs ++ t ∷ [] → n ≡ length xs → set rows n (set (get_or rows n []) i v) ≡ xs ++ set t i v ∷ []
+set_last xs t rows n i v e m = rw (e, m) (ap (λ r. set (xs ++ t ∷ []) (length xs) (set r i v)) (get_or-last xs t []) ∙ set-append_seam xs t [] (set t i v))
 
 -- one assignment more
 pub next_effect : (S : Kripke) (w : ℕ) (sets : List (ℕ × Node)) (i : ℕ) → AreDistinct sets → i < length sets → (get_or sets i no_set).0 < S.atoms →

@@ -14,12 +14,12 @@ use Rattle.ep_theory.specs.Events.{Event, EventModel, IsAction, event_at, no_eve
 use Rattle.ep_theory.specs.Tested.{is_true}
 use Rattle.ep_theory.proofs.CallerLemmas.{get_or-map_within, All-at, All-map}
 use Rattle.ep_logic.proofs.CallerLemmas.{length-table, get_or-table}
-use Rattle.ep_update.specs.Places.{label_of, labels, value_labels}
+use Rattle.ep_update.specs.Places.{label_of, precondition_labels, value_labels}
 use Rattle.ep_update.proofs.AssignedLemmas.{no_set}
 use Rattle.ep_update.proofs.FittingLemmas.{set_at, set_within}
 
 -- the row of an event
-pub label_row : (S : Kripke) (A : EventModel) (e : ℕ) (rows : List (List Bool)) (row : List Bool) → rows ≡ labels S A → e < length A.events → row ≡ get_or rows e row → row ≡ label_of S (event_at A e).pre
+pub label_row : (S : Kripke) (A : EventModel) (e : ℕ) (rows : List (List Bool)) (row : List Bool) → rows ≡ precondition_labels S A → e < length A.events → row ≡ get_or rows e row → row ≡ label_of S (event_at A e).pre
 label_row S A e rows row h l r =
     let k : e < length rows = omega (arith, ap length h, length-map A.events (λ (event : Event). label_of S event.pre)) in
     r ∙ get_or_default rows e row [] k ∙ ap (λ xs. get_or xs e []) h ∙ get_or-map_within (λ (event : Event). label_of S event.pre) A.events e no_event [] l
@@ -54,7 +54,7 @@ pub record IsDesignatedRow (S : Kripke) (A : EventModel) (i : ℕ) (row : List B
   pub place : i < length A.designated
   pub tells : row ≡ label_of S (event_at A (get_or A.designated i 0)).pre
 
-pub designated_row : (S : Kripke) (A : EventModel) (rows : List (List Bool)) (items : List ℕ) (i : ℕ) (row : List Bool) → IsAction A → rows ≡ labels S A → items ≡ A.designated → i < length items → row ≡ get_or rows (get_or items i 0) row → IsDesignatedRow S A i row
+pub designated_row : (S : Kripke) (A : EventModel) (rows : List (List Bool)) (items : List ℕ) (i : ℕ) (row : List Bool) → IsAction A → rows ≡ precondition_labels S A → items ≡ A.designated → i < length items → row ≡ get_or rows (get_or items i 0) row → IsDesignatedRow S A i row
 designated_row S A rows items i row m h e l r =
     let place : i < length A.designated = omega (arith, ap length e) in
     let event : get_or A.designated i 0 < length A.events = All-at (λ e. e < length A.events) A.designated i 0 place m.designated_within in
@@ -72,11 +72,11 @@ kept_labels S kept sets listed k e =
     ∙ ap (map (λ (set : ℕ × Node). label_of S set.1)) e
 
 -- the rows of labels
-pub labels_long : (S : Kripke) (A : EventModel) (n : ℕ) (rows : List (List Bool)) → n ≡ S.worlds → rows ≡ labels S A → AllByRecursion (λ (row : List Bool). length row ≡ n) rows
+pub labels_long : (S : Kripke) (A : EventModel) (n : ℕ) (rows : List (List Bool)) → n ≡ S.worlds → rows ≡ precondition_labels S A → AllByRecursion (λ (row : List Bool). length row ≡ n) rows
 labels_long S A n rows e h = subst (λ rs. AllByRecursion (λ (row : List Bool). length row ≡ n) rs) (sym h)
     (All-map (λ (row : List Bool). length row ≡ n) (λ (event : Event). label_of S event.pre) A.events (λ event i. label_long S event.pre (label_of S event.pre) refl ∙ sym e))
 
-pub labels_count : (S : Kripke) (A : EventModel) (rows : List (List Bool)) → rows ≡ labels S A → length rows ≡ length A.events
+pub labels_count : (S : Kripke) (A : EventModel) (rows : List (List Bool)) → rows ≡ precondition_labels S A → length rows ≡ length A.events
 labels_count S A rows h = ap length h ∙ length-map A.events (λ (event : Event). label_of S event.pre)
 
 -- an assignment and its label, as they are read

@@ -4,6 +4,9 @@ pub mod PlaceLemmas
 pub mod ProductLemmas
 pub mod AssignedLemmas
 pub mod RowLemmas
+pub mod OriginalLemmas
 pub mod FittingLemmas
 pub mod LabelLemmas
+pub mod BoundLemmas
+pub mod EqualProducts
 pub mod CallerLemmas

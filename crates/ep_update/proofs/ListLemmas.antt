@@ -1,7 +1,7 @@
 -- Loops over lists: what holds of the front, and the first element that passes.
 use Rattle.std.proofs.Common.{◌≡◌, ℕ, zero, suc, ◌+◌, ◌<◌, ◌≤◌, Bool, true, false, cond, List, [], ◌∷◌, ◌++◌, map, length, get_or, take, find, Option, Some, None, refl, sym, ◌∙◌, ap, arith, add-one}
 use Rattle.std.proofs.lemmas.Option.{none-some}
-use Rattle.std.proofs.lemmas.List.{take_more, map-append, get_or_default}
+use Rattle.std.proofs.lemmas.List.{take_more, map-append}
 use Rattle.std.proofs.lemmas.List.Folds.{list_any-append}
 use Rattle.std.specs.List.{AllByRecursion, list_any}
 
@@ -47,10 +47,6 @@ take_past [] zero l = refl
 take_past [] (suc i) l = refl
 take_past (x ∷ xs) zero l = absurd (omega arith)
 take_past (x ∷ xs) (suc i) l = ap (λ l. x ∷ l) (take_past xs i (omega arith))
-
--- an element that is read
-pub read_at : (xs : List ℕ) (i x : ℕ) → x ≡ get_or xs i x → i < length xs → x ≡ get_or xs i 0
-read_at xs i x e l = e ∙ get_or_default xs i x 0 l
 
 pub map_push : {X Y : Type 0} (f : X → Y) (xs : List X) (i : ℕ) (d : X) (old new : List Y) (y : Y) → i < length xs → old ≡ map f (take i xs) → y ≡ f (get_or xs i d) → new ≡ old ++ y ∷ [] → new ≡ map f (take (i + 1) xs)
 map_push f xs i d old new y l o h n = n ∙ ap (λ ys. ys ++ y ∷ []) o ∙ ap (λ z. map f (take i xs) ++ z ∷ []) h ∙ sym (map_more f xs i d l)

@@ -3,7 +3,7 @@ use Rattle.std.proofs.Common.{◌≡◌, ℕ, zero, suc, ◌+◌, ◌-◌, ◌<�
 use Rattle.std.proofs.lemmas.Bool.{cases_lt, lt-leb, le-leb}
 use Rattle.std.proofs.lemmas.List.{length-append, get_or_append_left, ext_get_or, length-map, get_or-append_right, get_or-map, map-append}
 use Rattle.ep_logic.specs.Numbers.{numbers_where, pairs_within, table}
-use Rattle.ep_logic.proofs.CallerLemmas.{length-table, get_or-table}
+use Rattle.ep_logic.proofs.CallerLemmas.{length-snoc, length-table, get_or-table}
 
 -- tests that agree below n choose the same numbers
 pub numbers_where-same : (p q : ℕ → Bool) (n : ℕ) → ((i : ℕ) → i < n → p i ≡ q i) → numbers_where p n ≡ numbers_where q n
@@ -93,6 +93,13 @@ numbers_keep p n xs e h = rw (add-one, h, append-nil) e
 
 pub table_push : {X : Type 0} (f : ℕ → X) (n : ℕ) (xs ys : List X) (x : X) → xs ≡ table f n → x ≡ f n → ys ≡ xs ++ x ∷ [] → ys ≡ table f (n + 1)
 table_push f n xs ys x e h g = rw add-one (g ∙ ap (λ l. l ++ x ∷ []) e ∙ ap (λ y. table f n ++ y ∷ []) h)
+
+-- how many pass, in a loop that counts up
+pub count_push : (p : ℕ → Bool) (n count new : ℕ) → count ≡ length (numbers_where p n) → p n ≡ true → new ≡ count + 1 → new ≡ length (numbers_where p (n + 1))
+count_push p n count new e h g = rw (add-one, h) (omega (arith, g, e, length-snoc (numbers_where p n) n))
+
+pub count_keep : (p : ℕ → Bool) (n count new : ℕ) → count ≡ length (numbers_where p n) → p n ≡ false → new ≡ count → new ≡ length (numbers_where p (n + 1))
+count_keep p n count new e h g = rw (add-one, h, append-nil) (g ∙ e)
 
 -- the places of one world, event by event
 pub places_push : (p : ℕ → Bool) (w n : ℕ) (old list new : List (ℕ × ℕ)) → list ≡ old ++ map (λ j. (w, j)) (numbers_where p n) → p n ≡ true → new ≡ list ++ (w, n) ∷ [] → new ≡ old ++ map (λ j. (w, j)) (numbers_where p (n + 1))

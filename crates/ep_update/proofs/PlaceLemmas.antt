@@ -1,5 +1,5 @@
 -- Laws of the places of a product, world by world.
-use Rattle.std.proofs.Common.{◌≡◌, ℕ, zero, suc, ◌<◌, ◌≤◌, Bool, true, false, cond, ◌&&◌, [], ◌∷◌, ◌++◌, flat_map, length, get_or, leb, refl, sym, ◌∙◌, ap, arith, append-nil, inl, inr}
+use Rattle.std.proofs.Common.{◌≡◌, ℕ, zero, suc, ◌<◌, ◌≤◌, Bool, true, false, cond, ◌&&◌, List, [], ◌∷◌, ◌++◌, flat_map, length, get_or, leb, refl, sym, ◌∙◌, ap, arith, append-nil, inl, inr}
 use Rattle.std.proofs.lemmas.Bool.{cases_lt, lt-leb, le-leb}
 use Rattle.std.proofs.lemmas.List.{length-map}
 use Rattle.std.proofs.lemmas.List.Concat.{flat_map-append}
@@ -10,22 +10,22 @@ use Rattle.ep_theory.specs.Product.{applies, places, place_at, links_both}
 use Rattle.ep_theory.specs.Tested.{is_true}
 use Rattle.ep_theory.proofs.CallerLemmas.{get_or-map_within, successors_are_numbers}
 use Rattle.ep_logic.proofs.CallerLemmas.{get_or-table}
-use Rattle.ep_update.specs.Places.{label_of, labels, is_labelled, labelled_pairs, first_place, is_linked_from, block, place_row}
+use Rattle.ep_update.specs.Places.{label_of, precondition_labels, is_labelled, labelled_pairs, first_place, is_linked_from, block, place_row}
 use Rattle.ep_update.proofs.NumbersWhere.{numbers_where-same, numbers_where-none, numbers_where-split, pairs_within-same, first-up, pair_at}
 
 -- what a label says at a world
-pub label_at : (S : Kripke) (A : EventModel) (w e : ℕ) → w < S.worlds → e < length A.events → is_labelled (labels S A) w e ≡ applies S A w e
+pub label_at : (S : Kripke) (A : EventModel) (w e : ℕ) → w < S.worlds → e < length A.events → is_labelled (precondition_labels S A) w e ≡ applies S A w e
 label_at S A w e l k =
     ap (λ row. get_or row w false) (get_or-map_within (λ (event : Event). label_of S event.pre) A.events e no_event [] k)
     ∙ get_or-table (λ w. is_true S w (event_at A e).pre) S.worlds w false l
 
 -- the labels give the places of the first worlds
-pub labelled_are : (S : Kripke) (A : EventModel) (m : ℕ) → m ≤ S.worlds → labelled_pairs (labels S A) m ≡ pairs_within (applies S A) (length A.events) m
+pub labelled_are : (S : Kripke) (A : EventModel) (m : ℕ) → m ≤ S.worlds → labelled_pairs (precondition_labels S A) m ≡ pairs_within (applies S A) (length A.events) m
 labelled_are S A m l =
-    ap (λ n. pairs_within (is_labelled (labels S A)) n m) (length-map A.events (λ (event : Event). label_of S event.pre))
-    ∙ pairs_within-same (is_labelled (labels S A)) (applies S A) (length A.events) m (λ w e a b. label_at S A w e (omega arith) b)
+    ap (λ n. pairs_within (is_labelled (precondition_labels S A)) n m) (length-map A.events (λ (event : Event). label_of S event.pre))
+    ∙ pairs_within-same (is_labelled (precondition_labels S A)) (applies S A) (length A.events) m (λ w e a b. label_at S A w e (omega arith) b)
 
-pub labelled_places : (S : Kripke) (A : EventModel) → labelled_pairs (labels S A) S.worlds ≡ places S A
+pub labelled_places : (S : Kripke) (A : EventModel) → labelled_pairs (precondition_labels S A) S.worlds ≡ places S A
 unfolding places
 labelled_places S A = labelled_are S A S.worlds (omega arith)
 
@@ -40,6 +40,10 @@ first_place-up S A v w h = first-up (applies S A) (length A.events) v w h
 pub place_world : (S : Kripke) (A : EventModel) (w i : ℕ) → w < S.worlds → first_place S A w ≤ i → i < first_place S A (suc w) → (place_at S A i).0 ≡ w
 unfolding places
 place_world S A w i h a b = pair_at (applies S A) (length A.events) S.worlds w i h a b
+
+-- no place is at `from` or later and below it
+pub no_block : (from : ℕ) (A : EventModel) (a e : ℕ) (list : List (ℕ × ℕ)) → numbers_where (is_linked_from from A a e list) from ≡ []
+no_block from A a e list = numbers_where-none (is_linked_from from A a e list) from (λ j l. rw (lt-leb from j l) refl)
 
 module _ (S : Kripke) (A : EventModel) (a i : ℕ) where
   -- the places of one world to which a place leads

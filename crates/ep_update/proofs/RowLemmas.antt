@@ -1,16 +1,17 @@
--- A row of the product from the blocks of the successors.
-use Rattle.std.proofs.Common.{◌≡◌, ℕ, suc, ◌+◌, ◌<◌, ◌≤◌, Bool, List, [], ◌∷◌, ◌++◌, flat_map, length, get_or, IsTrue, ◌↔◌, sym, ◌∙◌, ap, ap₂, subst, arith, refl, inl, inr}
+-- A row of the product from the places of the successors.
+use Rattle.std.proofs.Common.{◌≡◌, ℕ, suc, ◌+◌, ◌<◌, ◌≤◌, Bool, List, flat_map, length, get_or, IsTrue, ◌↔◌, sym, ◌∙◌, ap, subst, arith, refl}
 use Rattle.std.proofs.lemmas.List.{get_or_default}
 use Rattle.std.specs.Cmp.{both_ways}
 use Rattle.std.specs.List.{AllByRecursion}
-use Rattle.ep_theory.specs.Rising.{IsIn}
+use Rattle.std.specs.Ordering.{nat_cmp}
+use Rattle.ep_theory.specs.Rising.{IsIn, IsRising}
 use Rattle.ep_logic.specs.Numbers.{numbers_where, has_number, has_pair, table}
 use Rattle.ep_theory.specs.Kripke.{Kripke, IsState, links_of, successors}
 use Rattle.ep_theory.specs.Events.{EventModel}
 use Rattle.ep_theory.specs.Product.{places, place_at, links_both}
-use Rattle.ep_theory.proofs.CallerLemmas.{All-from_each, from_successors, to_has_number, from_has_number, to_has_pair, from_has_pair, is_place, from_places, links_within}
+use Rattle.ep_theory.proofs.CallerLemmas.{All-from_each, from_successors, to_has_number, from_has_number, to_has_pair, from_has_pair, is_place, from_places, from_numbers, links_within, rising_numbers}
 use Rattle.ep_logic.proofs.CallerLemmas.{length-table, get_or-table}
-use Rattle.ep_update.specs.Places.{block, blocks, place_row, first_place, is_linked_from, AreLabelled, ArePlaces, labels, labelled_pairs}
+use Rattle.ep_update.specs.Places.{block, place_row, first_place, is_linked_from, AreLabelled, ArePlaces, precondition_labels, labelled_pairs}
 use Rattle.ep_update.specs.declared.places.Places.{Places}
 use Rattle.ep_update.proofs.PlaceLemmas.{row_is, first_place-up, places-end, labelled_are, labelled_places}
 use Rattle.ep_update.proofs.NumbersWhere.{table-same, length-numbers_where}
@@ -21,10 +22,6 @@ has_pair_is ps e f b h = both_ways (has_pair ps e f) b (λ t. h.1 (from_has_pair
 
 pub has_number_is : (xs : List ℕ) (x : ℕ) (b : Bool) → IsTrue b ↔ IsIn x xs → has_number xs x ≡ b
 has_number_is xs x b h = both_ways (has_number xs x) b (λ t. h.1 (from_has_number xs x t)) (λ t. to_has_number xs x (h.0 t))
-
-flat_map-same : (f g : ℕ → List ℕ) (xs : List ℕ) → ((v : ℕ) → IsIn v xs → f v ≡ g v) → flat_map f xs ≡ flat_map g xs
-flat_map-same f g [] h = refl
-flat_map-same f g (x ∷ xs) h = ap₂ (λ ys zs. ys ++ zs) (h x (inl refl)) (flat_map-same f g xs (λ v i. h v (inr i)))
 
 -- a place has a world and an event
 pub place_in : (S : Kripke) (A : EventModel) (list : List (ℕ × ℕ)) (i : ℕ) → list ≡ places S A → i < length list → ((get_or list i (0, 0)).0 < S.worlds) × ((get_or list i (0, 0)).1 < length A.events)
@@ -37,32 +34,12 @@ pub successors_within : (S : Kripke) → IsState S → (a w : ℕ) (targets : Li
 successors_within S s a w targets e n m = All-from_each (λ v. v < n) targets (λ v i.
     subst (λ k. v < k) (sym m) (links_within S s a w v (from_successors w v (links_of S a) (subst (IsIn v) e i))).1)
 
--- the row of a place
-pub row_at : (S : Kripke) (A : EventModel) → IsState S → (a i : ℕ) (list : List (ℕ × ℕ)) (targets : List ℕ) (here : List (List ℕ)) → list ≡ places S A → targets ≡ successors (links_of S a) (get_or list i (0, 0)).0 → here ≡ blocks S A a (get_or list i (0, 0)).1 →
-    flat_map (λ v. get_or here v []) targets ≡ place_row S A a i
-row_at S A s a i list targets here e t h =
-    let at : get_or list i (0, 0) ≡ place_at S A i = ap (λ (xs : List (ℕ × ℕ)). get_or xs i (0, 0)) e in
-    let own : here ≡ blocks S A a (place_at S A i).1 = h ∙ ap (λ (p : ℕ × ℕ). blocks S A a p.1) at in
-    let to : targets ≡ successors (links_of S a) (place_at S A i).0 = t ∙ ap (λ (p : ℕ × ℕ). successors (links_of S a) p.0) at in
-    ap (flat_map (λ v. get_or here v [])) to
-    ∙ ap (λ rows. flat_map (λ v. get_or rows v []) (successors (links_of S a) (place_at S A i).0)) own
-    ∙ flat_map-same (λ v. get_or (blocks S A a (place_at S A i).1) v []) (block S A a (place_at S A i).1) (successors (links_of S a) (place_at S A i).0)
-    (λ v k. get_or-table (block S A a (place_at S A i).1) S.worlds v [] (links_within S s a (place_at S A i).0 v (from_successors (place_at S A i).0 v (links_of S a) k)).1)
-    ∙ row_is S A a i s
-
 -- the events of the places
 pub events_within : (S : Kripke) (A : EventModel) (list : List (ℕ × ℕ)) → list ≡ places S A → AllByRecursion (λ (at : ℕ × ℕ). at.1 < length A.events) list
 events_within S A list e = All-from_each (λ (at : ℕ × ℕ). at.1 < length A.events) list (λ p i. (from_places S A p (subst (λ xs. IsIn {A = ℕ × ℕ} p xs) e i)).event)
 
 pub block_is : (S : Kripke) (A : EventModel) (a e v from to : ℕ) (list : List (ℕ × ℕ)) → from ≡ first_place S A v → to ≡ first_place S A (suc v) → list ≡ places S A → numbers_where (is_linked_from from A a e list) to ≡ block S A a e v
 block_is S A a e v from to list f t l = rw (f, t, l) refl
-
--- the block of an event
-pub block_at : (S : Kripke) (A : EventModel) (a e : ℕ) (all : List (List (List ℕ))) (here : List (List ℕ)) → all ≡ table (blocks S A a) (length A.events) → e < length A.events → here ≡ get_or all e [] → here ≡ blocks S A a e
-block_at S A a e all here h l r = r ∙ ap (λ xs. get_or xs e []) h ∙ get_or-table (blocks S A a) (length A.events) e [] l
-
-pub block_long : (S : Kripke) (A : EventModel) (a e : ℕ) (here : List (List ℕ)) → here ≡ blocks S A a e → length here ≡ S.worlds
-block_long S A a e here h = ap length h ∙ length-table (block S A a e) S.worlds
 
 -- what reading the table of first places gives
 module _ (S : Kripke) (A : EventModel) (found : Places) (are : ArePlaces S A found) where
@@ -81,32 +58,67 @@ module _ (S : Kripke) (A : EventModel) (found : Places) (are : ArePlaces S A fou
   pub first_within : (v : ℕ) → v < S.worlds → get_or found.firsts.items (v + 1) 0 ≤ length found.list.items
   first_within v l = omega (arith, first_next v l, first_place-up S A (suc v) S.worlds l, places-end S A, ap length are.list)
 
+-- the two numbers that are read are where the places of a world begin and end
+pub record IsRange (S : Kripke) (A : EventModel) (found : Places) (v from to : ℕ) : Type 0 where
+  pub begin : from ≡ first_place S A v
+  pub past : to ≡ first_place S A (suc v)
+  pub order : from ≤ to
+  pub within : to ≤ length found.list.items
+
+pub range_of : (S : Kripke) (A : EventModel) (found : Places) (v from to : ℕ) → ArePlaces S A found → v < S.worlds → from ≡ get_or found.firsts.items v from → to ≡ get_or found.firsts.items (v + 1) to → IsRange S A found v from to
+range_of S A found v from to are l f t =
+    let long = firsts_long S A found are in
+    let begin : from ≡ get_or found.firsts.items v 0 = f ∙ get_or_default found.firsts.items v from 0 (omega (arith, l, firsts_long S A found are)) in
+    let past : to ≡ get_or found.firsts.items (v + 1) 0 = t ∙ get_or_default found.firsts.items (v + 1) to 0 (omega (arith, l, firsts_long S A found are)) in
+    record {
+      begin = begin ∙ first_read S A found are v (omega arith);
+      past = past ∙ first_next S A found are v l;
+      order = omega (arith, begin, past, first_order S A found are v l);
+      within = omega (arith, past, first_within S A found are v l);
+    }
+
 -- the places by the labels of an action are those of the product
-pub are_places : (S : Kripke) (A : EventModel) (n : ℕ) (rows : List (List Bool)) (found : Places) → n ≡ S.worlds → rows ≡ labels S A → AreLabelled n rows found → ArePlaces S A found
+pub are_places : (S : Kripke) (A : EventModel) (n : ℕ) (rows : List (List Bool)) (found : Places) → n ≡ S.worlds → rows ≡ precondition_labels S A → AreLabelled n rows found → ArePlaces S A found
 are_places S A n rows found e h are = record {
   list = are.list ∙ ap (λ k. labelled_pairs rows k) e ∙ ap (λ r. labelled_pairs r S.worlds) h ∙ labelled_places S A;
   firsts = are.firsts ∙ ap (λ k. table (λ w. length (labelled_pairs rows w)) (k + 1)) e ∙ ap (λ r. table (λ w. length (labelled_pairs r w)) (S.worlds + 1)) h
-      ∙ table-same (λ w. length (labelled_pairs (labels S A) w)) (first_place S A) (S.worlds + 1) (λ w l. ap length (labelled_are S A w (omega arith)));
+      ∙ table-same (λ w. length (labelled_pairs (precondition_labels S A) w)) (first_place S A) (S.worlds + 1) (λ w l. ap length (labelled_are S A w (omega arith)));
 }
 
--- what is known of the row of a place
-pub record IsRowOf (S : Kripke) (A : EventModel) (a i : ℕ) (list : List (ℕ × ℕ)) (targets : List ℕ) (here : List (List ℕ)) : Type 0 where
-  pub within : AllByRecursion (λ v. v < length here) targets
-  pub joined : flat_map (λ v. get_or here v []) targets ≡ place_row S A a i
-  pub short : length (flat_map (λ v. get_or here v []) targets) ≤ length (places S A)
+-- what is known of the row of a place: the places of the successors of its world
+pub record IsRowOf (S : Kripke) (A : EventModel) (a i : ℕ) (at : ℕ × ℕ) (targets : List ℕ) : Type 0 where
+  pub within : AllByRecursion (λ v. v < S.worlds) targets
+  pub joined : flat_map (block S A a at.1) targets ≡ place_row S A a i
+  pub short : length (flat_map (block S A a at.1) targets) ≤ length (places S A)
 
-pub row_of : (S : Kripke) (A : EventModel) → IsState S → (a i : ℕ) (list : List (ℕ × ℕ)) (targets : List ℕ) (all : List (List (List ℕ))) (here : List (List ℕ)) → list ≡ places S A → i < length list →
-    targets ≡ successors (links_of S a) (get_or list i (0, 0)).0 → all ≡ table (blocks S A a) (length A.events) → here ≡ get_or all (get_or list i (0, 0)).1 here → IsRowOf S A a i list targets here
-row_of S A s a i list targets all here e l t h r =
-    let at = place_in S A list i e l in
-    let k : (get_or list i (0, 0)).1 < length all = omega (arith, at.1, ap length h, length-table (blocks S A a) (length A.events)) in
-    let own : here ≡ blocks S A a (get_or list i (0, 0)).1 = block_at S A a (get_or list i (0, 0)).1 all here h at.1 (r ∙ get_or_default all (get_or list i (0, 0)).1 here [] k) in
-    let joined : flat_map (λ v. get_or here v []) targets ≡ place_row S A a i = row_at S A s a i list targets here e t own in
+-- the pair of a place, as it is read
+pub place_read : (S : Kripke) (A : EventModel) (found : Places) (i : ℕ) (at : ℕ × ℕ) → ArePlaces S A found → i < length (places S A) → at ≡ get_or found.list.items i at → at ≡ place_at S A i
+place_read S A found i at are l e = e ∙ get_or_default found.list.items i at (0, 0) (omega (arith, l, ap length are.list)) ∙ ap (λ (xs : List (ℕ × ℕ)). get_or xs i (0, 0)) are.list
+
+pub place_fits : (S : Kripke) (A : EventModel) (i : ℕ) (at : ℕ × ℕ) → i < length (places S A) → at ≡ place_at S A i → (at.0 < S.worlds) × (at.1 < length A.events)
+place_fits S A i at l e =
+    let p = is_place S A i l in
+    (subst (λ (x : ℕ × ℕ). x.0 < S.worlds) (sym e) p.world, subst (λ (x : ℕ × ℕ). x.1 < length A.events) (sym e) p.event)
+
+pub row_of : (S : Kripke) (A : EventModel) → IsState S → (a i : ℕ) (at : ℕ × ℕ) (targets : List ℕ) → i < length (places S A) → at ≡ place_at S A i → targets ≡ successors (links_of S a) at.0 → IsRowOf S A a i at targets
+row_of S A s a i at targets l here t =
+    let joined : flat_map (block S A a at.1) targets ≡ place_row S A a i =
+    ap (flat_map (block S A a at.1)) t
+    ∙ ap (λ (x : ℕ × ℕ). flat_map (block S A a x.1) (successors (links_of S a) x.0)) here
+    ∙ row_is S A a i s in
     record {
-      within = successors_within S s a (get_or list i (0, 0)).0 targets t (length here) (block_long S A a (get_or list i (0, 0)).1 here own);
+      within = successors_within S s a at.0 targets t S.worlds refl;
       joined = joined;
       short = omega (arith, ap length joined, length-numbers_where (λ j. links_both S A a (place_at S A i) (place_at S A j)) (length (places S A)));
     }
 
-pub blocks_had : (S : Kripke) (A : EventModel) (a i : ℕ) (list : List (ℕ × ℕ)) (all : List (List (List ℕ))) → list ≡ places S A → i < length list → all ≡ table (blocks S A a) (length A.events) → (get_or list i (0, 0)).1 < length all
-blocks_had S A a i list all e l h = omega (arith, (place_in S A list i e l).1, ap length h, length-table (blocks S A a) (length A.events))
+-- the row as one of worlds
+pub row_rises : (S : Kripke) (A : EventModel) (a i : ℕ) (row : List ℕ) → row ≡ place_row S A a i → IsRising nat_cmp row
+row_rises S A a i row e = subst (IsRising nat_cmp) (sym e) (rising_numbers (λ j. links_both S A a (place_at S A i) (place_at S A j)) (length (places S A)))
+
+pub row_within : (S : Kripke) (A : EventModel) (a i n : ℕ) (row : List ℕ) → row ≡ place_row S A a i → n ≡ length (places S A) → AllByRecursion (λ v. v < n) row
+row_within S A a i n row e m = All-from_each (λ v. v < n) row (λ v k.
+    subst (λ b. v < b) (sym m) (from_numbers (λ j. links_both S A a (place_at S A i) (place_at S A j)) (length (places S A)) v (subst (IsIn v) e k)).0)
+
+pub row_short : (S : Kripke) (A : EventModel) (a i : ℕ) → length (place_row S A a i) ≤ length (places S A)
+row_short S A a i = length-numbers_where (λ j. links_both S A a (place_at S A i) (place_at S A j)) (length (places S A))

@@ -1,5 +1,5 @@
 -- The places of a product by rows of truth values, and the links between them world by world.
-use Rattle.std.specs.Prelude.{◌≡◌, ℕ, suc, ◌+◌, Bool, false, ◌&&◌, nat_le, List, [], length, map, slice_index_or}
+use Rattle.std.specs.Prelude.{◌≡◌, ℕ, suc, ◌+◌, ◌<◌, ◌≤◌, Bool, false, ◌&&◌, nat_le, List, [], length, map, slice_index_or}
 use Rattle.ep_logic.specs.declared.formula.Node.{Node}
 use Rattle.ep_logic.specs.Numbers.{numbers_where, pairs_within, has_pair, table}
 use Rattle.ep_theory.specs.Kripke.{Kripke}
@@ -13,12 +13,16 @@ abbrev pub label_of : Kripke → Node → List Bool
 label_of S f = table (λ w. is_true S w f) S.worlds
 
 -- for each event, the truth of its precondition at each world
-abbrev pub labels : Kripke → EventModel → List (List Bool)
-labels S A = map (λ event. label_of S event.pre) A.events
+abbrev pub precondition_labels : Kripke → EventModel → List (List Bool)
+precondition_labels S A = map (λ event. label_of S event.pre) A.events
 
 -- for each event, for each of its assignments, the truth of its formula at each world
 abbrev pub value_labels : Kripke → EventModel → List (List (List Bool))
 value_labels S A = map (λ event. map (λ set. label_of S set.1) event.sets) A.events
+
+-- for each event, for each of its assignments, the atom and the truth of its formula at each world
+abbrev pub assignment_labels : Kripke → EventModel → List (List (ℕ × List Bool))
+assignment_labels S A = map (λ event. map {A = ℕ × Node} {B = ℕ × List Bool} (λ set. (set.0, label_of S set.1)) event.sets) A.events
 
 -- whether the label of the event is true at the world
 abbrev pub is_labelled : List (List Bool) → ℕ → ℕ → Bool
@@ -40,10 +44,6 @@ is_linked_from from A a e list j = nat_le from j && has_pair (event_links A a) e
 abbrev pub block : Kripke → EventModel → ℕ → ℕ → ℕ → List ℕ
 block S A a e v = numbers_where (is_linked_from (first_place S A v) A a e (places S A)) (first_place S A (suc v))
 
--- those places for each world
-abbrev pub blocks : Kripke → EventModel → ℕ → ℕ → List (List ℕ)
-blocks S A a e = table (block S A a e) S.worlds
-
 -- the places to which the agent links place i
 abbrev pub place_row : Kripke → EventModel → ℕ → ℕ → List ℕ
 place_row S A a i = numbers_where (λ j. links_both S A a (place_at S A i) (place_at S A j)) (length (places S A))
@@ -51,6 +51,16 @@ place_row S A a i = numbers_where (λ j. links_both S A a (place_at S A i) (plac
 -- those places for each place
 abbrev pub place_rows : Kripke → EventModel → ℕ → List (List ℕ)
 place_rows S A a = table (place_row S A a) (length (places S A))
+
+-- the number of the old row of a place, by the names of the worlds' rows, and its event
+abbrev pub pair_of : List ℕ → ℕ × ℕ → ℕ × ℕ
+pair_of names at = (slice_index_or names at.0 0, at.1)
+
+-- for each place a place, no later, whose row is equal
+pub record AreOriginals (S : Kripke) (A : EventModel) (a : ℕ) (originals : List ℕ) : Type 0 where
+  pub long : length originals ≡ length (places S A)
+  pub no_later : (i : ℕ) → i < length (places S A) → slice_index_or originals i 0 ≤ i
+  pub equal : (i : ℕ) → i < length (places S A) → place_row S A a (slice_index_or originals i 0) ≡ place_row S A a i
 
 -- the places by the labels, and for each world, and for their number, how many have an earlier world
 pub record AreLabelled (worlds : ℕ) (rows : List (List Bool)) (found : Places) : Type 0 where

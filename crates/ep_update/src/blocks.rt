@@ -1,58 +1,36 @@
-ghost use Rattle.std.specs.Prelude.{◌≡◌, ℕ, ◌<◌, ◌≤◌, ◌++◌, length, IfOk, OnOk};
+// The places of a world to whose events an agent links an event.
+
+ghost use Rattle.std.specs.Prelude.{◌≡◌, ◌<◌, ◌≤◌, ◌++◌, length, OnOk};
 ghost use Rattle.std.specs.List.{AllByRecursion};
-ghost use Rattle.ep_logic.specs.Numbers.{numbers_where, table};
-ghost use Rattle.ep_theory.specs.Kripke.{Kripke};
-ghost use Rattle.ep_theory.specs.Events.{EventModel};
-ghost use Rattle.ep_update.specs.Places.{blocks, is_linked_from, ArePlaces};
+ghost use Rattle.ep_logic.specs.Numbers.{has_pair, numbers_where};
+ghost use Rattle.ep_theory.specs.Events.{event_links};
+ghost use Rattle.ep_update.specs.Places.{block, is_linked_from, ArePlaces};
 
 use crate::places::Places;
 use ep_event::Action;
-use ep_kripke::{Rows, State};
-use ep_logic::{AgentId, EventId, List, OutOfMemory};
-use std::alloc::Global;
+use ep_kripke::State;
+use ep_logic::{AgentId, EventId, OutOfMemory};
 
-// For each event, for each world, the places of the world to whose events the agent links the event.
-pub(crate) fn all_blocks(
-    alloc: Global,
-    s: &State,
-    a: &Action,
-    agent: u32,
-    found: &Places,
-) -> Result<List<Rows>, OutOfMemory>
-    requires agent { agent < length a.now.links }
-    requires places { ArePlaces s.now a.now found.now }
-    ensures { IfOk result (λ all. all ≡ table (blocks s.now a.now agent) (length a.now.events)) }
-{
-    let mut all = List::new(alloc);
-    for e in 0..a.events() {
-        all.push(blocks_of(alloc, s, a, agent, e, found)?)?;
-    }
-    Ok(all)
-}
-
-fn blocks_of(
-    alloc: Global,
+// Puts those of world v at the end.
+pub(crate) fn put_block(
+    row: &mut Vec<u32>,
     s: &State,
     a: &Action,
     agent: u32,
     e: u32,
     found: &Places,
-) -> Result<Rows, OutOfMemory>
+    v: u32,
+) -> Result<(), OutOfMemory>
     requires agent { agent < length a.now.links }
     requires event { e < length a.now.events }
+    requires world { v < s.now.worlds }
     requires places { ArePlaces s.now a.now found.now }
-    ensures { IfOk result (λ rows. rows ≡ blocks s.now a.now agent e) }
+    ensures { OnOk result (row.new.items ≡ row.old.items ++ block s.now a.now agent e v) }
 {
-    let mut rows = Rows::new(alloc);
-    let mut row = Vec::new(alloc);
-    for v in 0..s.worlds() as usize {
-        let from = found.firsts[v];
-        let to = found.firsts[v + 1];
-        row.clear();
-        add_block(&mut row, a, agent, e, &found.list, from, to)?;
-        rows.push(&row)?;
-    }
-    Ok(rows)
+    let _s = s;
+    let (from, to) = (found.firsts[v as usize], found.firsts[v as usize + 1]);
+    add_block(row, a, agent, e, &found.list, from, to)?;
+    Ok(())
 }
 
 // Puts at the end the places from `from` on, and below `to`, to whose events the agent links the event.
@@ -73,10 +51,49 @@ fn add_block(
     ensures { OnOk result (row.new.items ≡ row.old.items ++ numbers_where (is_linked_from from a.now agent e list.now) to) }
 {
     for k in from..to {
-        let f = list[k as usize].1;
-        if a.linked(AgentId { n: agent }, EventId { n: e }, EventId { n: f }) {
+        if leads_to(a, agent, e, list[k as usize].1) {
             row.push(k)?;
         }
     }
     Ok(())
+}
+
+// How many they are of world v.
+pub(crate) fn block_length(s: &State, a: &Action, agent: u32, e: u32, found: &Places, v: u32) -> u64
+    requires agent { agent < length a.now.links }
+    requires event { e < length a.now.events }
+    requires world { v < s.now.worlds }
+    requires places { ArePlaces s.now a.now found.now }
+    ensures { result ≡ length (block s.now a.now agent e v) }
+{
+    let _s = s;
+    let (from, to) = (found.firsts[v as usize], found.firsts[v as usize + 1]);
+    count_block(a, agent, e, &found.list, from, to)
+}
+
+fn count_block(a: &Action, agent: u32, e: u32, list: &[(u32, u32)], from: u32, to: u32) -> u64
+    requires agent { agent < length a.now.links }
+    requires event { e < length a.now.events }
+    requires events { AllByRecursion (λ at. at.1 < length a.now.events) list.now }
+    requires order { from ≤ to }
+    requires within { to ≤ length list.now }
+    ensures { result ≡ length (numbers_where (is_linked_from from a.now agent e list.now) to) }
+{
+    let mut count = 0;
+    for k in from..to {
+        if leads_to(a, agent, e, list[k as usize].1) {
+            count += 1;
+        }
+    }
+    count
+}
+
+// Whether the agent links the event to event f.
+fn leads_to(a: &Action, agent: u32, e: u32, f: u32) -> bool
+    requires agent { agent < length a.now.links }
+    requires event { e < length a.now.events }
+    requires other { f < length a.now.events }
+    ensures { result ≡ has_pair (event_links a.now agent) e f }
+{
+    a.linked(AgentId { n: agent }, EventId { n: e }, EventId { n: f })
 }

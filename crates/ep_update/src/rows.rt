@@ -1,17 +1,18 @@
 // The links and the designated worlds of a product.
 
-ghost use Rattle.std.specs.Prelude.{◌≡◌, ◌*◌, ◌<◌, ◌≤◌, ◌^◌, [], length, flat_map, sum_by, slice_index_or, IfOk, OnOk};
+ghost use Rattle.std.specs.Prelude.{◌≡◌, ◌*◌, ◌<◌, ◌≤◌, ◌^◌, ◌++◌, length, flat_map, sum_by, IfOk, OnOk};
 ghost use Rattle.std.specs.List.{AllByRecursion};
 ghost use Rattle.ep_kripke.specs.declared.limits.TheConstants.{MOST_WORLDS};
 ghost use Rattle.ep_logic.specs.Numbers.{numbers_where, table};
 ghost use Rattle.ep_theory.specs.Fits.{ActionFits};
 ghost use Rattle.ep_theory.specs.Product.{places, place_at, is_designated};
-ghost use Rattle.ep_update.specs.Places.{ArePlaces, place_rows};
+ghost use Rattle.ep_update.specs.Places.{block, place_row, place_rows, ArePlaces, AreOriginals};
 
-use crate::blocks::all_blocks;
+use crate::blocks::{block_length, put_block};
+use crate::originals::originals_of;
 use crate::places::Places;
 use ep_event::Action;
-use ep_kripke::{Rows, State};
+use ep_kripke::{Naming, Relation, State};
 use ep_logic::{AgentId, EventId, List, OutOfMemory, WorldId};
 use std::alloc::Global;
 
@@ -20,53 +21,94 @@ pub(crate) fn relations_of(
     s: &State,
     a: &Action,
     found: &Places,
-) -> Result<List<Rows>, OutOfMemory>
+) -> Result<List<Relation>, OutOfMemory>
     requires fits { ActionFits s.now a.now }
+    requires few { length (places s.now a.now) ≤ MOST_WORLDS }
     requires places { ArePlaces s.now a.now found.now }
     ensures { IfOk result (λ relations. relations ≡ table (place_rows s.now a.now) s.now.agents) }
 {
     let mut relations = List::new(alloc);
     for agent in 0..s.agents() {
-        relations.push(rows_of(alloc, s, a, agent, found)?)?;
+        let originals = originals_of(alloc, s, a, agent, &found.list)?;
+        relations.push(relation_of(alloc, s, a, agent, found, &originals)?)?;
     }
     Ok(relations)
 }
 
-fn rows_of(
+// Each row is made where its pair comes first, and named again at the other places.
+fn relation_of(
     alloc: Global,
     s: &State,
     a: &Action,
     agent: u32,
     found: &Places,
-) -> Result<Rows, OutOfMemory>
+    originals: &[u32],
+) -> Result<Relation, OutOfMemory>
     requires fits { ActionFits s.now a.now }
     requires agent { agent < s.now.agents }
+    requires few { length (places s.now a.now) ≤ MOST_WORLDS }
     requires places { ArePlaces s.now a.now found.now }
+    requires originals { AreOriginals s.now a.now agent originals.now }
     ensures { IfOk result (λ rows. rows ≡ place_rows s.now a.now agent) }
 {
-    let all = all_blocks(alloc, s, a, agent, found)?;
-    let blocks = all.as_slice();
-    let mut rows = Rows::new(alloc);
+    let list = found.list.as_slice();
+    let mut naming = Naming::new(alloc, list.len() as u32)?;
     let mut row = Vec::new(alloc);
     let mut targets = Vec::new(alloc);
-    let list = found.list.as_slice();
-    for at in list {
-        let (w, e) = *at;
-        s.read_targets(AgentId { n: agent }, WorldId { n: w }, &mut targets)?;
-        fill_row(&mut row, &targets, &blocks[e as usize])?;
-        rows.push(&row)?;
+    for i in 0..list.len() {
+        let original = originals[i];
+        if (original as usize) < i {
+            naming.push_again(original)?;
+        } else {
+            fill_row(&mut row, &mut targets, s, a, agent, found, i)?;
+            naming.push(&row)?;
+        }
     }
+    let rows = naming.finish(alloc)?;
     Ok(rows)
 }
 
-// Joins the rows of these worlds.
-fn fill_row(row: &mut Vec<u32>, worlds: &[u32], block: &Rows) -> Result<(), OutOfMemory>
-    requires { AllByRecursion (λ v. v < length block.now) worlds.now }
-    ensures { OnOk result (row.new.items ≡ flat_map (λ v. slice_index_or block.now v []) worlds.now) }
+// Writes the row of a place.
+fn fill_row(
+    row: &mut Vec<u32>,
+    targets: &mut Vec<u32>,
+    s: &State,
+    a: &Action,
+    agent: u32,
+    found: &Places,
+    i: usize,
+) -> Result<(), OutOfMemory>
+    requires fits { ActionFits s.now a.now }
+    requires agent { agent < s.now.agents }
+    requires place { i < length (places s.now a.now) }
+    requires places { ArePlaces s.now a.now found.now }
+    ensures { OnOk result (row.new.items ≡ place_row s.now a.now agent i) }
 {
+    let (w, e) = found.list[i];
+    s.read_targets(AgentId { n: agent }, WorldId { n: w }, targets)?;
     row.clear();
+    put_blocks(row, s, a, agent, e, found, targets)?;
+    Ok(())
+}
+
+// Puts the places of these worlds at the end.
+fn put_blocks(
+    row: &mut Vec<u32>,
+    s: &State,
+    a: &Action,
+    agent: u32,
+    e: u32,
+    found: &Places,
+    worlds: &[u32],
+) -> Result<(), OutOfMemory>
+    requires agent { agent < length a.now.links }
+    requires event { e < length a.now.events }
+    requires places { ArePlaces s.now a.now found.now }
+    requires worlds { AllByRecursion (λ v. v < s.now.worlds) worlds.now }
+    ensures { OnOk result (row.new.items ≡ row.old.items ++ flat_map (block s.now a.now agent e) worlds.now) }
+{
     for v in worlds {
-        row.extend_from_slice(block.row(*v as usize))?;
+        put_block(row, s, a, agent, e, found, *v)?;
     }
     Ok(())
 }
@@ -85,48 +127,79 @@ pub(crate) fn count_links(
 {
     let mut total = 0;
     for agent in 0..s.agents() {
-        total += count_of(alloc, s, a, agent, found)?;
+        let originals = originals_of(alloc, s, a, agent, &found.list)?;
+        total += count_of(alloc, s, a, agent, found, &originals)?;
     }
     Ok(total)
 }
 
-// The number of the agent's links.
+// The number of the agent's links. A row is counted where its pair comes first.
 fn count_of(
     alloc: Global,
     s: &State,
     a: &Action,
     agent: u32,
     found: &Places,
+    originals: &[u32],
 ) -> Result<u64, OutOfMemory>
     requires fits { ActionFits s.now a.now }
     requires agent { agent < s.now.agents }
     requires few { length (places s.now a.now) ≤ MOST_WORLDS }
     requires places { ArePlaces s.now a.now found.now }
+    requires originals { AreOriginals s.now a.now agent originals.now }
     ensures count { IfOk result (λ n. n ≡ sum_by length (place_rows s.now a.now agent)) }
     ensures bound { IfOk result (λ n. n ≤ 65536 * 65536) }
 {
-    let all = all_blocks(alloc, s, a, agent, found)?;
-    let blocks = all.as_slice();
-    let mut total = 0;
+    let mut lengths = Vec::new(alloc);
     let mut targets = Vec::new(alloc);
-    let list = found.list.as_slice();
-    for at in list {
-        let (w, e) = *at;
-        s.read_targets(AgentId { n: agent }, WorldId { n: w }, &mut targets)?;
-        total += count_row(&targets, &blocks[e as usize]);
+    let mut total = 0;
+    for i in 0..originals.len() {
+        let original = originals[i] as usize;
+        let length = if original < i {
+            lengths[original]
+        } else {
+            row_length(&mut targets, s, a, agent, found, i)?
+        };
+        lengths.push(length)?;
+        total += length;
     }
     Ok(total)
 }
 
-// How long the rows of these worlds are together.
-fn count_row(worlds: &[u32], block: &Rows) -> u64
-    requires within { AllByRecursion (λ v. v < length block.now) worlds.now }
-    requires few { length (flat_map (λ v. slice_index_or block.now v []) worlds.now) < 2 ^ 64 }
-    ensures { result ≡ length (flat_map (λ v. slice_index_or block.now v []) worlds.now) }
+// How long the row of a place is.
+fn row_length(
+    targets: &mut Vec<u32>,
+    s: &State,
+    a: &Action,
+    agent: u32,
+    found: &Places,
+    i: usize,
+) -> Result<u64, OutOfMemory>
+    requires fits { ActionFits s.now a.now }
+    requires agent { agent < s.now.agents }
+    requires few { length (places s.now a.now) ≤ MOST_WORLDS }
+    requires place { i < length (places s.now a.now) }
+    requires places { ArePlaces s.now a.now found.now }
+    ensures { IfOk result (λ n. n ≡ length (place_row s.now a.now agent i)) }
+{
+    let (w, e) = found.list[i];
+    s.read_targets(AgentId { n: agent }, WorldId { n: w }, targets)?;
+    let length = count_blocks(s, a, agent, e, found, targets);
+    Ok(length)
+}
+
+// How many places of these worlds there are.
+fn count_blocks(s: &State, a: &Action, agent: u32, e: u32, found: &Places, worlds: &[u32]) -> u64
+    requires agent { agent < length a.now.links }
+    requires event { e < length a.now.events }
+    requires places { ArePlaces s.now a.now found.now }
+    requires worlds { AllByRecursion (λ v. v < s.now.worlds) worlds.now }
+    requires few { length (flat_map (block s.now a.now agent e) worlds.now) < 2 ^ 64 }
+    ensures { result ≡ length (flat_map (block s.now a.now agent e) worlds.now) }
 {
     let mut total = 0;
     for v in worlds {
-        total += block.row(*v as usize).len() as u64;
+        total += block_length(s, a, agent, e, found, *v);
     }
     total
 }

@@ -2,7 +2,7 @@
 use Rattle.std.proofs.Common.{rules, ◌≡◌, ℕ, zero, suc, ◌≤◌, List, [], ◌∷◌, Option, Some, None, MatchOption, arith, subst, sym, ap, ◌∙◌}
 use Rattle.std.proofs.lemmas.Fmt.{decimal_injective}
 use Rattle.ep_words.specs.declared.options.PlanOption.{PlanOption}
-use Rattle.ep_words.specs.declared.options.PlanOption.TheVariants.{Depth, States, Worlds, Guide, First}
+use Rattle.ep_words.specs.declared.options.PlanOption.TheVariants.{Depth, Cost, States, Worlds, Guide, First}
 use Rattle.ep_words.specs.declared.options.Options.{Options}
 use Rattle.ep_words.specs.Options.{Word, guide_word, option_words, IsWithin, IsNew, and_option, AreOptions, no_more, one_more}
 
@@ -22,26 +22,37 @@ guide_one (suc (suc n)) (suc (suc m)) here there e = omega (arith, here, there)
 
 pub option_one : (o q : PlanOption) → IsWithin o → IsWithin q → option_words o ≡ option_words q → o ≡ q
 option_one (Depth n) (Depth m) here there e = ap Depth (decimal_injective n m (omega (arith, here)) (omega (arith, there)) (second e))
+option_one (Depth n) (Cost m) here there e = search (rules, e)
 option_one (Depth n) (States m) here there e = search (rules, e)
 option_one (Depth n) (Worlds m) here there e = search (rules, e)
 option_one (Depth n) (Guide m) here there e = search (rules, e)
 option_one (Depth n) First here there e = search (rules, e)
+option_one (Cost n) (Depth m) here there e = search (rules, e)
+option_one (Cost n) (Cost m) here there e = ap Cost (decimal_injective n m (omega (arith, here)) (omega (arith, there)) (second e))
+option_one (Cost n) (States m) here there e = search (rules, e)
+option_one (Cost n) (Worlds m) here there e = search (rules, e)
+option_one (Cost n) (Guide m) here there e = search (rules, e)
+option_one (Cost n) First here there e = search (rules, e)
 option_one (States n) (Depth m) here there e = search (rules, e)
+option_one (States n) (Cost m) here there e = search (rules, e)
 option_one (States n) (States m) here there e = ap States (decimal_injective n m (omega (arith, here)) (omega (arith, there)) (second e))
 option_one (States n) (Worlds m) here there e = search (rules, e)
 option_one (States n) (Guide m) here there e = search (rules, e)
 option_one (States n) First here there e = search (rules, e)
 option_one (Worlds n) (Depth m) here there e = search (rules, e)
+option_one (Worlds n) (Cost m) here there e = search (rules, e)
 option_one (Worlds n) (States m) here there e = search (rules, e)
 option_one (Worlds n) (Worlds m) here there e = ap Worlds (decimal_injective n m (omega (arith, here)) (omega (arith, there)) (second e))
 option_one (Worlds n) (Guide m) here there e = search (rules, e)
 option_one (Worlds n) First here there e = search (rules, e)
 option_one (Guide n) (Depth m) here there e = search (rules, e)
+option_one (Guide n) (Cost m) here there e = search (rules, e)
 option_one (Guide n) (States m) here there e = search (rules, e)
 option_one (Guide n) (Worlds m) here there e = search (rules, e)
 option_one (Guide n) (Guide m) here there e = ap Guide (guide_one n m here there (second e))
 option_one (Guide n) First here there e = search (rules, e)
 option_one First (Depth m) here there e = search (rules, e)
+option_one First (Cost m) here there e = search (rules, e)
 option_one First (States m) here there e = search (rules, e)
 option_one First (Worlds m) here there e = search (rules, e)
 option_one First (Guide m) here there e = search (rules, e)

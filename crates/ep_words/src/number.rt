@@ -16,7 +16,7 @@ fn is_plain(bytes: &[u8]) -> bool
 
 /// The number that the word writes, if it is one from `least` to `most`.
 #[tactic(auto, using(crate::proofs::NumberLemmas::plain_number, crate::proofs::NumberLemmas::number_is_plain))]
-pub fn number(word: &str, least: u32, most: u32) -> Option<u32>
+pub fn read_number(word: &str, least: u32, most: u32) -> Option<u32>
     ensures { MatchOption result
         ((n : ℕ) → least ≤ n → n ≤ most → word.now ≢ decimal n)
         (λ n. (word.now ≡ decimal n) × (least ≤ n) × (n ≤ most)) }

@@ -7,30 +7,31 @@ ghost use Rattle.ep_words.specs.declared.options.PlanOption as option;
 ghost use Rattle.ep_words.specs.declared.options.Options as given;
 
 use crate::command::Command;
-use crate::number::number;
-use ep_bounds::{Bounds, MOST_ACTIONS, MOST_STATES, MOST_WORLDS, Mode};
+use crate::number::read_number;
+use ep_bounds::{Bounds, MOST_BOUND, MOST_STATES, MOST_WORLDS, Measure, Mode};
 
 /// An option with its value.
 #[derive(Clone, Copy)]
 pub enum PlanOption {
     Depth(u32),
+    Cost(u32),
     States(u32),
     Worlds(u32),
     Guide(u32),
     First,
 }
 
-/// The options that are given.
+/// The options that are given. A bound is one of the two measures, by `--depth` or by `--cost`.
 #[derive(Clone, Copy)]
 pub struct Options {
-    pub depth: Option<u32>,
+    pub bound: Option<(Measure, u32)>,
     pub states: Option<u32>,
     pub worlds: Option<u32>,
     pub guide: Option<u32>,
     pub mode: Mode,
 }
 
-fn guide(word: &str) -> Option<u32>
+fn read_guide(word: &str) -> Option<u32>
     ensures { MatchOption result ((n : ℕ) → n ≤ 2 → word.now ≢ guide_word n) (λ n. (word.now ≡ guide_word n) × IsWithin (Guide n)) }
 {
     if word == "depth" {
@@ -45,19 +46,21 @@ fn guide(word: &str) -> Option<u32>
 }
 
 // The option that two words write.
-fn option(name: &str, value: &str) -> Option<PlanOption>
+fn read_option(name: &str, value: &str) -> Option<PlanOption>
     ensures { MatchOption result
         ((o : option.PlanOption) → IsWithin o → option_words o ≢ name.now ∷ value.now ∷ [])
         (λ o. IsWithin o × (option_words o ≡ name.now ∷ value.now ∷ [])) }
 {
     if name == "--depth" {
-        number(value, 0, MOST_ACTIONS).map(PlanOption::Depth)
+        read_number(value, 0, MOST_BOUND).map(PlanOption::Depth)
+    } else if name == "--cost" {
+        read_number(value, 0, MOST_BOUND).map(PlanOption::Cost)
     } else if name == "--states" {
-        number(value, 1, MOST_STATES).map(PlanOption::States)
+        read_number(value, 1, MOST_STATES).map(PlanOption::States)
     } else if name == "--worlds" {
-        number(value, 1, MOST_WORLDS).map(PlanOption::Worlds)
+        read_number(value, 1, MOST_WORLDS).map(PlanOption::Worlds)
     } else if name == "--guide" {
-        guide(value).map(PlanOption::Guide)
+        read_guide(value).map(PlanOption::Guide)
     } else if name == "--first" && value == "yes" {
         Some(PlanOption::First)
     } else {
@@ -70,7 +73,7 @@ impl Options {
         ensures { result ≡ no_options }
     {
         Options {
-            depth: None,
+            bound: None,
             states: None,
             worlds: None,
             guide: None,
@@ -82,7 +85,7 @@ impl Options {
         ensures { IsFalse result ↔ IsNew option self.now }
     {
         match option {
-            PlanOption::Depth(_) => self.depth.is_some(),
+            PlanOption::Depth(_) | PlanOption::Cost(_) => self.bound.is_some(),
             PlanOption::States(_) => self.states.is_some(),
             PlanOption::Worlds(_) => self.worlds.is_some(),
             PlanOption::Guide(_) => self.guide.is_some(),
@@ -98,7 +101,11 @@ impl Options {
     {
         match option {
             PlanOption::Depth(n) => Options {
-                depth: Some(n),
+                bound: Some((Measure::Length, n)),
+                ..self
+            },
+            PlanOption::Cost(n) => Options {
+                bound: Some((Measure::Cost, n)),
                 ..self
             },
             PlanOption::States(n) => Options {
@@ -121,12 +128,14 @@ impl Options {
     }
 
     /// The command with these options.
-    pub fn plan(&self) -> Command
+    pub fn to_command(&self) -> Command
         ensures { result ≡ plan_of self.now }
     {
+        let (measure, bound) = self.bound.unwrap_or((Measure::Length, 8));
         Command::Plan {
             bounds: Bounds {
-                depth: self.depth.unwrap_or(8),
+                measure,
+                bound,
                 states: self.states.unwrap_or(1000),
                 worlds: self.worlds.unwrap_or(256),
             },
@@ -145,7 +154,7 @@ pub fn read_options(words: &[String], options: Options) -> Option<Options>
     match words {
         [] => Some(options),
         [name, value, more @ ..] => {
-            let option = option(name.as_str(), value.as_str())?;
+            let option = read_option(name.as_str(), value.as_str())?;
             if options.has(option) {
                 return None;
             }

@@ -6,7 +6,7 @@ ghost use Rattle.ep_words.specs.declared.command.Command.{Command};
 ghost use Rattle.ep_words.specs.declared.command.Command.TheVariants.{Trial};
 
 use crate::command::{Command, Usage};
-use crate::number::number;
+use crate::number::read_number;
 use crate::options::{Options, read_options};
 
 /// Whether a word can name a file: it is not empty, and does not begin with `-`.
@@ -63,18 +63,18 @@ fn is_task_plan_and_formula(words: &[String]) -> bool
     }
 }
 
-fn children(words: &[String]) -> Option<u32>
+fn read_children(words: &[String]) -> Option<u32>
     ensures { MatchOption result
         ((n : ℕ) → AreArguments (Trial n) (map string_bytes words.now) → ⊥)
         (λ n. AreArguments (Trial n) (map string_bytes words.now)) }
 {
     match words {
-        [children] => number(children.as_str(), 1, 8),
+        [children] => read_number(children.as_str(), 1, 8),
         _ => None,
     }
 }
 
-fn planned(words: &[String]) -> Option<Command>
+fn read_plan(words: &[String]) -> Option<Command>
     ensures { MatchOption result
         ((c : Command) → IsPlanned (map string_bytes words.now) c → ⊥)
         (IsPlanned (map string_bytes words.now)) }
@@ -86,7 +86,7 @@ fn planned(words: &[String]) -> Option<Command>
         return None;
     }
     let all = read_options(options, Options::none())?;
-    Some(all.plan())
+    Some(all.to_command())
 }
 
 fn only_if(holds: bool, command: Command) -> Option<Command>
@@ -96,13 +96,13 @@ fn only_if(holds: bool, command: Command) -> Option<Command>
 }
 
 // The command with this verb and these words behind it.
-fn command(verb: &str, words: &[String]) -> Option<Command>
+fn read_command(verb: &str, words: &[String]) -> Option<Command>
     ensures { MatchOption result
         ((c : Command) → IsCommand (verb.now ∷ map string_bytes words.now) c → ⊥)
         (IsCommand (verb.now ∷ map string_bytes words.now)) }
 {
     if verb == "plan" {
-        planned(words)
+        read_plan(words)
     } else if verb == "validate" {
         only_if(is_task_and_plan(words), Command::Validate)
     } else if verb == "eval" {
@@ -117,7 +117,7 @@ fn command(verb: &str, words: &[String]) -> Option<Command>
         only_if(is_task(words), Command::Check)
     } else if verb == "trial" {
         Some(Command::Trial {
-            children: children(words)?,
+            children: read_children(words)?,
         })
     } else {
         None
@@ -133,5 +133,5 @@ pub fn read_words(words: &[String]) -> Result<Command, Usage>
     let [verb, rest @ ..] = words else {
         return Err(Usage {});
     };
-    command(verb.as_str(), rest).ok_or(Usage {})
+    read_command(verb.as_str(), rest).ok_or(Usage {})
 }

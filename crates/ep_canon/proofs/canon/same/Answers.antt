@@ -1,7 +1,7 @@
 use Rattle.std.proofs.Common.{◌≡◌, sym, ◌∙◌}
 use Rattle.std.proofs.lemmas.Slice.Eq.{bytes_eq-Decides}
-use Rattle.ep_canon.specs.Bytes.{bytes_of}
-use Rattle.ep_canon.proofs.BytesLemmas.{bytes_of_contractions_decide}
+use Rattle.ep_bytes.specs.Bytes.{bytes_of}
+use Rattle.ep_canon.proofs.CanonLemmas.{bytes_of_contractions_decide}
 use Rattle.ep_canon.proofs.canon.same.Goals as goal
 
 pub returns : goal.returns

@@ -1,4 +1,4 @@
-use Rattle.ep_canon.proofs.BytesLemmas.{bytes_of_contractions_decide}
+use Rattle.ep_canon.proofs.CanonLemmas.{bytes_of_contractions_decide}
 use Rattle.ep_canon.proofs.laws.bytes_of_contractions_decide.Goals as goal
 
 pub returns : goal.returns

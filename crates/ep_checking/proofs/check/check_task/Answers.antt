@@ -5,13 +5,13 @@ use Rattle.ep_reading.proofs.CallerLemmas.{stops_at_task, ends_with, ground_form
 use Rattle.ep_checking.proofs.CheckLemmas.{checks_is_behind}
 use Rattle.ep_checking.proofs.check.check_task.Goals as goal
 
-pub checked-requires-clause-formed : goal.checked-requires-clause-formed
-checked-requires-clause-formed g c =
+pub report_task-requires-clause-formed : goal.report_task-requires-clause-formed
+report_task-requires-clause-formed g c =
     let t = c.in_ok-task.ensures.task.is_task in
     ground_formed t.tree c.in_ok-task.task t.is_ground.whole t.is_tree.text.reads.formed
 
-pub checked-requires-clause-shallow : goal.checked-requires-clause-shallow
-checked-requires-clause-shallow g c =
+pub report_task-requires-clause-shallow : goal.report_task-requires-clause-shallow
+report_task-requires-clause-shallow g c =
     let t = c.in_ok-task.ensures.task.is_task in
     ground_shallow t.tree c.in_ok-task.task t.is_ground.whole t.is_tree.text.reads.shallow
 

@@ -6,18 +6,18 @@ use Rattle.ep_cli.proofs.GuideLemmas.{asked_of}
 use Rattle.ep_cli.proofs.WordLemmas.{plan_within}
 use Rattle.ep_cli.proofs.top.serve.Goals as goal
 
-pub guided_plan-requires : goal.guided_plan-requires
-guided_plan-requires g c =
+pub plan_by_guide-requires : goal.plan_by_guide-requires
+plan_by_guide-requires g c =
     let words = map string_bytes c.args.words.now in
     plan_within words c.in-Plan.bounds c.in-Plan.guide c.in-Plan.mode (subst (IsCommand words) c.in-Plan.is c.requires)
 
 pub returns-in-Plan-clause-answer : goal.returns-in-Plan-clause-answer
 returns-in-Plan-clause-answer g c =
-    serves_plan (map string_bytes c.args.words.now) _ c.in-Plan.bounds c.in-Plan.guide c.in-Plan.mode c.word-file.result.now _ _ c.guided_plan.result c.args.command c.in-Plan.is c.word-file.ensures c.guided_plan.ensures.answer
+    serves_plan (map string_bytes c.args.words.now) _ c.in-Plan.bounds c.in-Plan.guide c.in-Plan.mode c.word-file.result.now _ _ c.plan_by_guide.result c.args.command c.in-Plan.is c.word-file.ensures c.plan_by_guide.ensures.answer
 
 pub returns-in-Plan-clause-asked : goal.returns-in-Plan-clause-asked
 returns-in-Plan-clause-asked g c b guide mode is some needs =
-    asked_of _ _ _ c.in-Plan.bounds b c.in-Plan.guide guide c.in-Plan.mode mode _ (sym c.in-Plan.is ∙ is) c.guided_plan.ensures.asked some needs
+    asked_of _ _ _ c.in-Plan.bounds b c.in-Plan.guide guide c.in-Plan.mode mode _ (sym c.in-Plan.is ∙ is) c.plan_by_guide.ensures.asked some needs
 
 pub returns-in-Validate-clause-answer : goal.returns-in-Validate-clause-answer
 returns-in-Validate-clause-answer g c =
@@ -48,4 +48,4 @@ returns-in-Check-clause-answer g c =
 
 pub returns-in-Trial-clause-answer : goal.returns-in-Trial-clause-answer
 returns-in-Trial-clause-answer g c =
-    serves_trial (map string_bytes c.args.words.now) _ c.in-Trial.children _ c.guided_trial.result c.args.command c.in-Trial.is c.guided_trial.ensures
+    serves_trial (map string_bytes c.args.words.now) _ c.in-Trial.children _ c.try_by_guide.result c.args.command c.in-Trial.is c.try_by_guide.ensures

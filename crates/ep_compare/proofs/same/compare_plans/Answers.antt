@@ -12,5 +12,5 @@ returns-in_err-task-clause-answer g c =
 
 pub returns-clause-answer : goal.returns-clause-answer
 returns-clause-answer g c =
-    behind_task _ _ _ c.args.file.now c.in_ok-task.task (λ files. TwoPlans files c.args.one.now c.args.two.now) _ _ c.with_both.result
-    c.in_ok-task.ensures.task c.in_ok-task.ensures.goes_on (λ s name n. inr n) c.with_both.ensures.answer
+    behind_task _ _ _ c.args.file.now c.in_ok-task.task (λ files. TwoPlans files c.args.one.now c.args.two.now) _ _ c.compare_both.result
+    c.in_ok-task.ensures.task c.in_ok-task.ensures.goes_on (λ s name n. inr n) c.compare_both.ensures.answer

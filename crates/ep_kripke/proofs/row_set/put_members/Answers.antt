@@ -1,4 +1,4 @@
-use Rattle.std.proofs.Common.{◌≡◌, ◌++◌, [], get_or, ap, ◌∙◌}
+use Rattle.std.proofs.Common.{◌≡◌, [], get_or, ap, ◌∙◌}
 use Rattle.ep_logic.specs.Packed.{bit_in}
 use Rattle.ep_logic.specs.Numbers.{numbers_where}
 use Rattle.std.proofs.Common.{length, ◌*◌}

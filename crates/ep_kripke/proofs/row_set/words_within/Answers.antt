@@ -1,4 +1,4 @@
-use Rattle.std.proofs.Common.{◌≡◌, ◌^◌, ◌<◌, get_or, refl, sym, ap, ◌∙◌, arith, bit_and}
+use Rattle.std.proofs.Common.{◌^◌, ◌<◌, get_or, refl, ap, ◌∙◌, arith, bit_and}
 use Rattle.ep_kripke.proofs.WordLemmas.{words_within, word_within, all_words}
 use Rattle.ep_kripke.proofs.row_set.words_within.Goals as goal
 

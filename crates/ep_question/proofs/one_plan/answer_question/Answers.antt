@@ -14,5 +14,5 @@ returns-in_err-task-clause-answer g c =
 
 pub returns-clause-answer : goal.returns-clause-answer
 returns-clause-answer g c =
-    behind_task _ _ _ c.args.file.now c.in_ok-task.task (λ files t. PlanFile files Plan c.args.word.now t (Asks c.args.question t)) _ _ c.of_task.result
-    c.in_ok-task.ensures.task c.in_ok-task.ensures.goes_on (λ s name n. inr n) c.of_task.ensures.answer
+    behind_task _ _ _ c.args.file.now c.in_ok-task.task (λ files t. PlanFile files Plan c.args.word.now t (Asks c.args.question t)) _ _ c.answer_on_task.result
+    c.in_ok-task.ensures.task c.in_ok-task.ensures.goes_on (λ s name n. inr n) c.answer_on_task.ensures.answer

@@ -11,6 +11,6 @@ returns-in_err-parsed c =
 pub returns : goal.returns
 returns c =
     let parsed = c.in_ok-parsed.parsed in
-    MatchResult-weaker c.formed.result c.formed.ensures
+    MatchResult-weaker c.form_formula.result c.form_formula.ensures
     (λ f h. record { few = c.requires; found = parsed.tokens; tree = parsed.tree; is_text = c.in_ok-parsed.ensures; form = h })
     (λ stop h. stops_at_form c.args.task.now c.args.text.now parsed.tokens parsed.tree stop c.in_ok-parsed.ensures h)

@@ -7,7 +7,7 @@ use Rattle.ep_theory.specs.Truth.{Satisfies}
 use Rattle.ep_search.specs.Conjuncts.{AreParts}
 use Rattle.ep_search.proofs.AlikeLemmas.{to_Alike}
 use Rattle.ep_search.proofs.GoalLemmas.{parts_fit, goal_at, unmet_at, unmet_here}
-use Rattle.ep_search.proofs.StartLemmas.{shortest_empty, found_empty, wide_empty, asked_ok}
+use Rattle.ep_search.proofs.StartLemmas.{least_empty, found_empty, wide_empty, asked_ok}
 use Rattle.ep_search.proofs.bounded.answer.Goals as goal
 
 pub count_unmet-requires-clause-fit : goal.count_unmet-requires-clause-fit
@@ -21,7 +21,7 @@ returns-in-Prove-clause-allowed g c =
     let parts = subst (AreParts c.args.problem.now.goal) (sym c.as_slice.ensures) c.requires.parts in
     let tells = subst (λ S. (c.in_ok-unmet.unmet ≡ 0) ↔ AllByRecursion (Satisfies S) c.as_slice.result.now) c.initial.ensures.value c.in_ok-unmet.ensures.none in (
       c.in-Prove.is,
-      shortest_empty c.args.problem.now c.args.setting.now.bounds.depth _ c.new.ensures
+      least_empty c.args.problem.now c.args.setting.now.bounds _ c.new.ensures
           (goal_at c.args.problem.now.initial c.args.problem.now.goal c.as_slice.result.now c.in_ok-unmet.unmet parts tells c.if-unmet-eq0.true),
     )
 
@@ -29,7 +29,7 @@ pub returns-in-First-clause-allowed : goal.returns-in-First-clause-allowed
 returns-in-First-clause-allowed g c =
     let parts = subst (AreParts c.args.problem.now.goal) (sym c.as_slice.ensures) c.requires.parts in
     let tells = subst (λ S. (c.in_ok-unmet.unmet ≡ 0) ↔ AllByRecursion (Satisfies S) c.as_slice.result.now) c.initial.ensures.value c.in_ok-unmet.ensures.none in
-    found_empty c.args.problem.now c.args.setting.now.bounds.depth _ _ _ _ c.new-in-First.ensures
+    found_empty c.args.problem.now c.args.setting.now.bounds _ _ c.new-in-First.ensures
     (goal_at c.args.problem.now.initial c.args.problem.now.goal c.as_slice.result.now c.in_ok-unmet.unmet parts tells c.if-unmet-eq0.true) c.in-First.is
 
 pub returns-then-setting-worlds-clause-allowed : goal.returns-then-setting-worlds-clause-allowed
@@ -37,7 +37,7 @@ returns-then-setting-worlds-clause-allowed g c =
     let parts = subst (AreParts c.args.problem.now.goal) (sym c.as_slice.ensures) c.requires.parts in
     let tells = subst (λ S. (c.in_ok-unmet.unmet ≡ 0) ↔ AllByRecursion (Satisfies S) c.as_slice.result.now) c.initial.ensures.value c.in_ok-unmet.ensures.none in
     let contracts : Contracts c.args.problem.now.initial c.in_ok-canon.canon = subst (λ S. Contracts S c.in_ok-canon.canon) c.initial-2.ensures.value c.in_ok-canon.ensures.contraction in
-    wide_empty c.args.problem.now c.args.setting.now.bounds.depth c.args.setting.now.bounds.worlds c.in_ok-canon.canon _ c.new-then-setting-worlds.ensures contracts
+    wide_empty c.args.problem.now c.args.setting.now.bounds c.in_ok-canon.canon _ c.new-then-setting-worlds.ensures contracts
     (unmet_here c.args.problem.now.initial c.args.problem.now.goal c.as_slice.result.now c.in_ok-unmet.unmet parts tells c.if-unmet-eq0.false)
     (subst (λ (u : Kripke). c.args.setting.now.bounds.worlds < u.worlds) c.state.ensures.value (omega (arith, c.if-setting-worlds.true, c.worlds.ensures.value)))
 
@@ -56,4 +56,4 @@ start-requires-clause-unmet g c =
 
 pub returns-clause-asked : goal.returns-clause-asked
 returns-clause-asked g c =
-    asked_ok c.args.problem.now c.args.setting.now.bounds.depth c.args.setting.now.bounds.states c.args.setting.now.bounds.worlds c.args.setting.now.mode _ _ _ c.run.result c.run.ensures.allowed c.in_ok-p.ensures.asked c.run.ensures.asked
+    asked_ok c.args.problem.now c.requires.task c.args.setting.now.bounds c.args.setting.now.mode _ _ _ c.run.result c.run.ensures.allowed c.in_ok-p.ensures.asked c.run.ensures.asked

@@ -6,7 +6,7 @@ use Rattle.ep_search.proofs.bounded.start.Goals.{then-setting-gt0+in_ok-enqueue,
 
 pub returns-clause-keeps : goal.returns-clause-keeps
 returns-clause-keeps g c =
-    let items : c.push.new.self.items ≡ c.args.setting.now.bounds.depth ∷ [] = grind (arith, common_steps) in
+    let items : c.push.new.self.items ≡ c.args.setting.now.bounds.bound ∷ [] = grind (arith, common_steps) in
     let r = c.requires in
     elim c.if-setting-gt0.branch [
       | then-setting-gt0+in_ok-enqueue w ↦
@@ -20,7 +20,7 @@ returns-clause-keeps g c =
 
 pub returns-clause-covers : goal.returns-clause-covers
 returns-clause-covers g c =
-    let items : c.push.new.self.items ≡ c.args.setting.now.bounds.depth ∷ [] = grind (arith, common_steps) in
+    let items : c.push.new.self.items ≡ c.args.setting.now.bounds.bound ∷ [] = grind (arith, common_steps) in
     let r = c.requires in
     elim c.if-setting-gt0.branch [
       | then-setting-gt0+in_ok-enqueue w ↦

@@ -1,11 +1,12 @@
-use Rattle.std.proofs.Common.{◌≡◌, length, true, false, replicate, IfOk, get_or, rules, arith, sym, ap, ◌∙◌, subst}
+use Rattle.std.proofs.Common.{◌≡◌, true, false, replicate, IfOk, rules, arith, sym, ap, ◌∙◌, subst}
 use Rattle.std.proofs.lemmas.Result.{IfOk-weaker}
 use Rattle.ep_logic.specs.declared.formula.Node.TheVariants.{True, False, Atom, And, Or, Knows}
 use Rattle.ep_logic.specs.declared.formula.Node.TheFolds.{the_lemmas}
 use Rattle.ep_theory.specs.Fits.{fits_in}
+use Rattle.ep_logic.specs.Numbers.{table}
 use Rattle.ep_truth.specs.Labels.{IsLabel, atom_test, all_test, any_test, knows_test, HasValues}
 use Rattle.ep_truth.proofs.FitLemmas.{fits_in-And, fits_in-Or}
-use Rattle.ep_truth.proofs.LabelLemmas.{label-True, label-False, label-Atom, label-Not, label-And, label-Or, label-Knows, common_label, tells_and, tells_or}
+use Rattle.ep_truth.proofs.LabelLemmas.{label-True, label-False, label-Atom, label-Not, label-And, label-Or, label-Knows, table_values, common_label, tells_and, tells_or}
 use Rattle.ep_truth.proofs.labels.+label.Goals as goal
 
 pub label_node-label_and-requires : goal.label_node-label_and-requires
@@ -37,7 +38,7 @@ label_node-returns-in-Atom t c =
     let s = c.args.s.now in
     let p = c.in-Atom.p in
     subst (λ n. IfOk c.label_atom.result (IsLabel s n)) (sym c.in-Atom.is)
-    (IfOk-weaker c.label_atom.result (HasValues s.worlds (atom_test s p.n)) (IsLabel s (Atom p)) (label-Atom s p) c.label_atom.ensures)
+    (IfOk-weaker c.label_atom.result (λ row. row ≡ table (atom_test s p.n) s.worlds) (IsLabel s (Atom p)) (λ row e. label-Atom s p row (table_values s.worlds (atom_test s p.n) row e)) c.label_atom.ensures)
 
 pub label_node-returns-in_ok-row-in-Not : goal.label_node-returns-in_ok-row-in-Not
 label_node-returns-in_ok-row-in-Not t c =
@@ -70,7 +71,8 @@ label_node-returns-in_ok-row-in-Knows t c =
     let inner = c.in_ok-row-in-Knows.row in
     let had : IsLabel s f inner = subst (λ n. IsLabel s n inner) c.get-in-Knows.ensures c.in_ok-row-in-Knows.ensures in
     subst (λ n. IfOk c.label_knows.result (IsLabel s n)) (sym c.in-Knows.is)
-    (IfOk-weaker c.label_knows.result (HasValues s.worlds (knows_test s a.n inner)) (IsLabel s (Knows a f)) (λ row. label-Knows s c.worlds-worlds.ensures.valid a f inner row had) c.label_knows.ensures)
+    (IfOk-weaker c.label_knows.result (λ row. row ≡ table (knows_test s a.n inner) s.worlds) (IsLabel s (Knows a f))
+    (λ row e. label-Knows s c.worlds-worlds.ensures.valid a f inner row had (table_values s.worlds (knows_test s a.n inner) row e)) c.label_knows.ensures)
 
 pub label_node-returns-in_ok-row-in-Common : goal.label_node-returns-in_ok-row-in-Common
 label_node-returns-in_ok-row-in-Common t c =
@@ -82,26 +84,22 @@ label_node-returns-in_ok-row-in-Common t c =
     subst (λ n. IfOk c.label_common.result (IsLabel s n)) (sym c.in-Common.is)
     (common_label s c.worlds-worlds.ensures.valid g f inner had c.label_common.result c.label_common.ensures.long c.label_common.ensures.each)
 
-pub label_and-loop-part-preserved : goal.label_and-loop-part-preserved
-label_and-loop-part-preserved t c =
+pub label_and-loop-i-preserved : goal.label_and-loop-i-preserved
+label_and-loop-i-preserved t c =
     let s = c.args.s.now in
-    let fs = c.args.parts.now in
-    let i = c.loop-part.part-index in
-    let d = c.part-item.result in
+    let fs = c.as_slice-parts.result.now in
+    let i = c.loop-i.i in
+    let d = c.index-parts-i.result in
     let next = c.in_ok-next.next in
-    let items = c.as_slice-part-items.ensures in
-    let part : d ≡ get_or fs i d = c.part-item.is ∙ ap (λ xs. get_or xs i d) items in
-    tells_and s fs i d c.loop-part.row next c.and_with.new.self (omega (arith, ap length items, c.loop-part-test.true))
-    c.loop-part.invariant (subst (λ n. IsLabel s n next) part c.in_ok-next.ensures) c.and_with.ensures
+    tells_and s fs i d c.loop-i.row next c.and_with.new.self (omega (arith, c.loop-i-test.true)) c.loop-i.invariant
+    (subst (λ n. IsLabel s n next) c.index-parts-i.is c.in_ok-next.ensures) c.and_with.ensures
 
-pub label_or-loop-part-preserved : goal.label_or-loop-part-preserved
-label_or-loop-part-preserved t c =
+pub label_or-loop-i-preserved : goal.label_or-loop-i-preserved
+label_or-loop-i-preserved t c =
     let s = c.args.s.now in
-    let fs = c.args.parts.now in
-    let i = c.loop-part.part-index in
-    let d = c.part-item.result in
+    let fs = c.as_slice-parts.result.now in
+    let i = c.loop-i.i in
+    let d = c.index-parts-i.result in
     let next = c.in_ok-next.next in
-    let items = c.as_slice-part-items.ensures in
-    let part : d ≡ get_or fs i d = c.part-item.is ∙ ap (λ xs. get_or xs i d) items in
-    tells_or s fs i d c.loop-part.row next c.or_with.new.self (omega (arith, ap length items, c.loop-part-test.true))
-    c.loop-part.invariant (subst (λ n. IsLabel s n next) part c.in_ok-next.ensures) c.or_with.ensures
+    tells_or s fs i d c.loop-i.row next c.or_with.new.self (omega (arith, c.loop-i-test.true)) c.loop-i.invariant
+    (subst (λ n. IsLabel s n next) c.index-parts-i.is c.in_ok-next.ensures) c.or_with.ensures

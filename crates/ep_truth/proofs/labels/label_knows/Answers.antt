@@ -1,9 +1,9 @@
-use Rattle.std.proofs.Common.{◌≡◌, List, ℕ, Bool, [], length, get_or, arith}
+use Rattle.std.proofs.Common.{◌≡◌, List, ℕ, [], length, get_or, arith}
 use Rattle.std.specs.List.{list_all}
 use Rattle.std.proofs.lemmas.Result.{IfOk-weaker}
 use Rattle.ep_logic.specs.Numbers.{table}
 use Rattle.ep_logic.specs.Rows.{value_at}
-use Rattle.ep_truth.specs.Labels.{HasValues, knows_test}
+use Rattle.ep_truth.specs.Labels.{knows_test}
 use Rattle.ep_truth.proofs.LabelLemmas.{knows_row}
 use Rattle.ep_truth.proofs.labels.label_knows.Goals as goal
 
@@ -16,6 +16,6 @@ returns c =
     let rows : List (List ℕ) = c.relation.result.now in
     IfOk-weaker c.all_within.result
     (λ row. row ≡ table (λ w. list_all (value_at c.args.inner.now) (get_or c.relation.result.now w [])) (length c.relation.result.now))
-    (HasValues s.worlds (knows_test s c.args.a.n c.args.inner.now))
+    (λ row. row ≡ table (knows_test s c.args.a.n c.args.inner.now) s.worlds)
     (λ row e. knows_row s c.args.a.n c.args.inner.now row c.relation.result.now c.relation.ensures.rows c.relation.ensures.each e)
     c.all_within.ensures

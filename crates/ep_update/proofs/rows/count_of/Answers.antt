@@ -1,39 +1,47 @@
-use Rattle.std.proofs.Common.{◌≡◌, ◌∙◌, ◌∷◌, [], ap, ℕ, arith, add-one, length}
+use Rattle.std.proofs.Common.{◌≡◌, ◌<◌, ◌∙◌, ◌∷◌, [], ap, ℕ, arith, add-one, length, get_or}
+use Rattle.std.proofs.lemmas.List.{get_or_default}
 use Rattle.std.proofs.lemmas.List.Sums.{sum_by-append}
 use Rattle.ep_logic.specs.Numbers.{table}
+use Rattle.ep_logic.proofs.CallerLemmas.{length-table, get_or-table}
+use Rattle.ep_theory.specs.Product.{places}
 use Rattle.ep_update.specs.Places.{place_row}
-use Rattle.ep_update.proofs.RowLemmas.{place_in, row_of, blocks_had, IsRowOf}
+use Rattle.ep_update.proofs.NumbersWhere.{table_push}
+use Rattle.ep_update.proofs.RowLemmas.{row_short}
 use Rattle.ep_update.proofs.rows.count_of.Goals as goal
+use Rattle.ep_update.proofs.rows.count_of.Goals.{then-original-i, else-original-i+in_ok-length}
 
-pub read_targets-requires-clause-world : goal.read_targets-requires-clause-world
-read_targets-requires-clause-world c = (place_in c.args.s.now c.args.a.now c.as_slice-list.result.now c.loop-at.at-index (c.as_slice-list.ensures.value ∙ c.requires.places.list) c.loop-at-test.true).0
-
-pub bounds-blocks-e : goal.bounds-blocks-e
-bounds-blocks-e c = blocks_had c.args.s.now c.args.a.now c.args.agent c.loop-at.at-index c.as_slice-list.result.now c.as_slice-blocks.result.now (c.as_slice-list.ensures.value ∙ c.requires.places.list) c.loop-at-test.true
-    (c.as_slice-blocks.ensures ∙ c.in_ok-all.ensures)
-
-row : (c : goal.After-index-blocks-e) → IsRowOf c.args.s.now c.args.a.now c.args.agent c.loop-at.at-index c.as_slice-list.result.now c.deref.result.now c.index-blocks-e.result
-row c = row_of c.args.s.now c.args.a.now c.in_ok-read_targets.ensures.valid c.args.agent c.loop-at.at-index c.as_slice-list.result.now c.deref.result.now c.as_slice-blocks.result.now c.index-blocks-e.result
-    (c.as_slice-list.ensures.value ∙ c.requires.places.list) c.loop-at-test.true (c.deref.ensures.value ∙ c.in_ok-read_targets.ensures.value) (c.as_slice-blocks.ensures ∙ c.in_ok-all.ensures) c.index-blocks-e.is
-
-pub count_row-total-requires-clause-within : goal.count_row-total-requires-clause-within
-count_row-total-requires-clause-within c = (row c).within
-
-pub count_row-total-requires-clause-few : goal.count_row-total-requires-clause-few
-count_row-total-requires-clause-few c = omega (arith, (row c).short, c.requires.few)
-
-after : (c : goal.After-count_row-total) → IsRowOf c.args.s.now c.args.a.now c.args.agent c.loop-at.at-index c.as_slice-list.result.now c.deref.result.now c.index-blocks-e.result
-after c = row_of c.args.s.now c.args.a.now c.in_ok-read_targets.ensures.valid c.args.agent c.loop-at.at-index c.as_slice-list.result.now c.deref.result.now c.as_slice-blocks.result.now c.index-blocks-e.result
-    (c.as_slice-list.ensures.value ∙ c.requires.places.list) c.loop-at-test.true (c.deref.ensures.value ∙ c.in_ok-read_targets.ensures.value) (c.as_slice-blocks.ensures ∙ c.in_ok-all.ensures) c.index-blocks-e.is
+pub index-requires : goal.index-requires
+index-requires c = omega (arith, c.if-original-i.true, c.loop-i.lengths.ok.0, ap length c.loop-i.invariant.lengths, length-table (λ i. length (place_row c.args.s.now c.args.a.now c.args.agent i)) c.loop-i.i)
 
 pub overflow_add-total : goal.overflow_add-total
-overflow_add-total c = omega (arith, (after c).short, c.count_row-total.ensures, c.requires.few, c.loop-at.invariant.bound, c.loop-at-test.true, ap length (c.as_slice-list.ensures.value ∙ c.requires.places.list))
+overflow_add-total c =
+    let i : c.loop-i.i < length (places c.args.s.now c.args.a.now) = omega (arith, c.loop-i-test.true, c.requires.originals.long) in
+    let is : c.if-original-i.length ≡ length (place_row c.args.s.now c.args.a.now c.args.agent c.loop-i.i) = elim c.if-original-i.branch [
+      | then-original-i w ↦ w.length-is ∙ w.index.ensures
+          ∙ get_or_default c.loop-i.lengths.items (get_or c.args.originals.now c.loop-i.i 0) w.index.result.now 0
+          (omega (arith, w.if-original-i.true, ap length c.loop-i.invariant.lengths, length-table (λ i. length (place_row c.args.s.now c.args.a.now c.args.agent i)) c.loop-i.i))
+          ∙ ap (λ xs. get_or xs (get_or c.args.originals.now c.loop-i.i 0) 0) c.loop-i.invariant.lengths
+          ∙ get_or-table (λ i. length (place_row c.args.s.now c.args.a.now c.args.agent i)) c.loop-i.i (get_or c.args.originals.now c.loop-i.i 0) 0 w.if-original-i.true
+          ∙ ap length (c.requires.originals.equal c.loop-i.i (omega (arith, c.loop-i-test.true, c.requires.originals.long)))
+      | else-original-i+in_ok-length w ↦ w.length-is ∙ w.in_ok-length.ensures
+    ] in
+    omega (arith, is, row_short c.args.s.now c.args.a.now c.args.agent c.loop-i.i, c.requires.few, c.loop-i.invariant.bound, i)
 
-pub loop-at-preserved : goal.loop-at-preserved
-loop-at-preserved c =
-    let count : c.count_row-total.result ≡ length (place_row c.args.s.now c.args.a.now c.args.agent c.loop-at.at-index) = c.count_row-total.ensures ∙ ap length (after c).joined in
+pub loop-i-preserved : goal.loop-i-preserved
+loop-i-preserved c =
+    let i : c.loop-i.i < length (places c.args.s.now c.args.a.now) = omega (arith, c.loop-i-test.true, c.requires.originals.long) in
+    let is : c.if-original-i.length ≡ length (place_row c.args.s.now c.args.a.now c.args.agent c.loop-i.i) = elim c.if-original-i.branch [
+      | then-original-i w ↦ w.length-is ∙ w.index.ensures
+          ∙ get_or_default c.loop-i.lengths.items (get_or c.args.originals.now c.loop-i.i 0) w.index.result.now 0
+          (omega (arith, w.if-original-i.true, ap length c.loop-i.invariant.lengths, length-table (λ i. length (place_row c.args.s.now c.args.a.now c.args.agent i)) c.loop-i.i))
+          ∙ ap (λ xs. get_or xs (get_or c.args.originals.now c.loop-i.i 0) 0) c.loop-i.invariant.lengths
+          ∙ get_or-table (λ i. length (place_row c.args.s.now c.args.a.now c.args.agent i)) c.loop-i.i (get_or c.args.originals.now c.loop-i.i 0) 0 w.if-original-i.true
+          ∙ ap length (c.requires.originals.equal c.loop-i.i (omega (arith, c.loop-i-test.true, c.requires.originals.long)))
+      | else-original-i+in_ok-length w ↦ w.length-is ∙ w.in_ok-length.ensures
+    ] in
     record {
-      count = rw (add-one, sum_by-append (length {A = ℕ}) (table (place_row c.args.s.now c.args.a.now c.args.agent) c.loop-at.at-index) (place_row c.args.s.now c.args.a.now c.args.agent c.loop-at.at-index ∷ []))
-          (omega (arith, count, c.loop-at.invariant.count));
-      bound = omega (arith, (after c).short, c.count_row-total.ensures, c.loop-at.invariant.bound, c.requires.few);
+      lengths = table_push (λ i. length (place_row c.args.s.now c.args.a.now c.args.agent i)) c.loop-i.i c.loop-i.lengths.items c.push.new.self.items c.if-original-i.length c.loop-i.invariant.lengths is c.in_ok-push.ensures.items;
+      count = rw (add-one, sum_by-append (length {A = ℕ}) (table (place_row c.args.s.now c.args.a.now c.args.agent) c.loop-i.i) (place_row c.args.s.now c.args.a.now c.args.agent c.loop-i.i ∷ []))
+          (omega (arith, is, c.loop-i.invariant.count));
+      bound = omega (arith, is, row_short c.args.s.now c.args.a.now c.args.agent c.loop-i.i, c.loop-i.invariant.bound, c.requires.few);
     }

@@ -8,4 +8,4 @@ returns-clause-only c =
     let words = c.args.words.now in
     let listed = map-one string_bytes words c.verb-item.result c.in-len1-up.len_at_least c.verb-item.is in
     let same = listed ∙ ap (λ v. v ∷ map string_bytes (take (length words - 1) (drop 1 words))) (sym c.as_str.ensures.value) in
-    only_if_command (map string_bytes words) _ c.command.result c.ok_or.result _ same c.command.ensures c.ok_or.ensures.value
+    only_if_command (map string_bytes words) _ c.read_command.result c.ok_or.result _ same c.read_command.ensures c.ok_or.ensures.value

@@ -1,22 +1,13 @@
-use Rattle.std.proofs.Common.{sym, ap, ◌∙◌, arith}
-use Rattle.ep_theory.specs.Kripke.{Kripke}
-use Rattle.ep_canon.proofs.ReadingLemmas.{other_bytes, one_state, bytes_agree, bytes_differ}
-use Rattle.ep_canon.proofs.ToldLemmas.{told_worlds}
+use Rattle.std.proofs.Common.{sym, ◌∙◌}
+use Rattle.ep_bytes.proofs.CallerLemmas.{bytes_agree, bytes_differ}
+use Rattle.ep_canon.proofs.CanonLemmas.{other_bytes, one_state}
 use Rattle.ep_canon.proofs.canon.Canon.read.Goals as goal
-
-pub contract-requires : goal.contract-requires
-contract-requires c =
-    let told = ap (λ (S : Kripke). S.worlds) c.in_ok-state.ensures.ok in
-    let worlds = told_worlds c.args.bytes.now c.in_ok-sizes.sizes in
-    let few = c.in_ok-sizes.ensures.ok.small.worlds in
-    omega (arith, told, worlds, few)
 
 pub returns-then-ne-clause-refused : goal.returns-then-ne-clause-refused
 returns-then-ne-clause-refused c =
     let apart = bytes_differ c.as_slice-2.result.now c.args.bytes.now c.if-ne.ensures in
     let own = c.as_slice-2.ensures ∙ c.in_ok-bytes.ensures.value in
-    other_bytes c.args.bytes.now c.in_ok-sizes.sizes c.in_ok-state.state c.in_ok-canon.canon c.in_ok-sizes.ensures.ok c.in_ok-state.ensures.ok c.in_ok-state.ensures.valid
-    c.in_ok-canon.ensures.idempotent (λ e. apart (own ∙ e))
+    other_bytes c.args.bytes.now c.in_ok-state.state c.in_ok-canon.canon c.in_ok-state.ensures.only c.in_ok-canon.ensures.idempotent (λ e. apart (own ∙ e))
 
 pub returns-clause-ok : goal.returns-clause-ok
 returns-clause-ok c = record {

@@ -1,4 +1,4 @@
-use Rattle.std.proofs.Common.{ℕ, ◌<◌, ◌∙◌, [], get_or, length, arith}
+use Rattle.std.proofs.Common.{[], get_or, length, arith}
 use Rattle.std.specs.List.{list_all}
 use Rattle.ep_logic.specs.Rows.{value_at}
 use Rattle.ep_logic.proofs.CallerLemmas.{row_is_table}

@@ -1,6 +1,3 @@
-use Rattle.std.proofs.Common.{subst, sym, length, List, ℕ, Bool}
-use Rattle.std.specs.List.{AllByRecursion}
-use Rattle.ep_kripke.specs.States.{AreRow}
 use Rattle.ep_kripke.proofs.StateLemmas.{rows_fit}
 use Rattle.ep_kripke.proofs.state.State.from_rows.Goals as goal
 

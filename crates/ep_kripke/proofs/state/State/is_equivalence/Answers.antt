@@ -1,4 +1,4 @@
-use Rattle.std.proofs.Common.{IsTrue, length, sym, subst}
+use Rattle.std.proofs.Common.{length, sym, subst}
 use Rattle.ep_theory.specs.Kripke.{links_of}
 use Rattle.ep_theory.specs.Equivalences.{IsEquivalence}
 use Rattle.ep_kripke.proofs.EquivalenceLemmas.{relation_fits}

@@ -1,8 +1,8 @@
-use Rattle.std.proofs.Common.{◌≡◌, ◌<◌, IsTrue, length, refl, sym, subst, arith, inl, inr}
+use Rattle.std.proofs.Common.{IsTrue, refl, sym, subst, arith, inl, inr}
 use Rattle.std.proofs.lemmas.Bool.{cases_eq}
 use Rattle.ep_theory.specs.Kripke.{links_of}
 use Rattle.ep_theory.specs.Equivalences.{IsEquivalence}
-use Rattle.ep_kripke.proofs.EquivalenceLemmas.{all_equivalences, one_equivalence}
+use Rattle.ep_kripke.proofs.EquivalenceLemmas.{all_equivalences}
 use Rattle.ep_kripke.proofs.state.State.is_s5.Goals as goal
 
 pub loop-a-preserved : goal.loop-a-preserved

@@ -19,4 +19,4 @@ invariant_of-self-2 c =
     subst (IsStore c.self.inside.limit) (sym c.in_ok-insert.ensures.ok)
     (new_kept c.self.inside.limit c.self.inside.map.entries c.self.invariant c.args.key c.args.entry
     (subst (λ l. Lacks l c.args.entry.canon) (sym es) c.requires.absent) (omega (arith, count, left)) c.requires.key c.requires.valid
-    (subst (λ l. MayCome l c.args.entry.depth c.args.entry.from) (sym es) c.requires.comes))
+    (subst (λ l. MayCome l c.args.entry.weight c.args.entry.from) (sym es) c.requires.comes))

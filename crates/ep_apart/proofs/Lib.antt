@@ -1,0 +1,15 @@
+pub mod TheoryLemmas
+pub mod TruthLemmas
+pub mod Rounds
+pub mod FormulaLemmas
+pub mod ToldLemmas
+pub mod JointLemmas
+pub mod Results
+pub mod GrowLemmas
+pub mod TableLemmas
+pub mod UnionLemmas
+pub mod ClassLemmas
+pub mod QuotientLemmas
+pub mod ApartLemmas
+pub mod PruneLemmas
+pub mod SimplifyLemmas

@@ -1,0 +1,14 @@
+pub mod GoalLemmas
+pub mod ByteLemmas
+pub mod ProgressLemmas
+pub mod TextLemmas
+pub mod OneLemmas
+pub mod NumberLemmas
+pub mod MapLemmas
+pub mod FieldLemmas
+pub mod SizeLemmas
+pub mod AnswerLemmas
+pub mod VerdictLemmas
+pub mod FitLemmas
+pub mod StepLemmas
+pub mod WritingLemmas

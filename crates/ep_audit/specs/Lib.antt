@@ -1,0 +1,9 @@
+pub mod NamedTasks
+pub mod Related
+pub mod Lines
+pub mod Certificates
+pub mod Sound
+pub mod Shown
+pub mod Numerals
+pub mod Answers
+pub mod Writing

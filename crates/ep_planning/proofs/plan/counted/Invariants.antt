@@ -1,4 +1,0 @@
-use Rattle.ep_planning.proofs.plan.counted.Given as goal
-
-abbrev pub ghosts-searched : goal.ghosts-searched
-ghosts-searched g a = record { name = a.blank.name; parts = a.blank.parts }

@@ -1,0 +1,7 @@
+use Rattle.std.proofs.Common.{◌≡◌, length}
+use Rattle.ep_logic.specs.Numbers.{numbers_where}
+use Rattle.ep_update.specs.Places.{is_linked_from}
+use Rattle.ep_update.proofs.blocks.count_block.Given as goal
+
+abbrev pub invariant-loop-k : goal.invariant-loop-k
+invariant-loop-k l = l.count ≡ length (numbers_where (is_linked_from l.from l.a l.agent l.e l.list) l.k)

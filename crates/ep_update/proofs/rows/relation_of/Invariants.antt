@@ -1,0 +1,11 @@
+use Rattle.std.proofs.Common.{◌≡◌, length}
+use Rattle.ep_logic.specs.Numbers.{table}
+use Rattle.ep_theory.specs.Product.{places}
+use Rattle.ep_update.specs.Places.{place_row}
+use Rattle.ep_update.proofs.rows.relation_of.Given as goal
+
+abbrev pub invariant-loop-i : goal.invariant-loop-i
+invariant-loop-i l = record {
+  worlds : l.naming.worlds ≡ length (places l.s l.a);
+  rows : l.naming.rows ≡ table (place_row l.s l.a l.agent) l.i;
+}

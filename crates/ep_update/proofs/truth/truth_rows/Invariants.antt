@@ -1,6 +1,0 @@
-use Rattle.std.proofs.Common.{◌≡◌, map, take}
-use Rattle.ep_theory.specs.Product.{truth_after}
-use Rattle.ep_update.proofs.truth.truth_rows.Given as goal
-
-abbrev pub invariant-loop-at : goal.invariant-loop-at
-invariant-loop-at l = l.truth ≡ map (truth_after l.s l.a) (take l.at-index l.list)

@@ -4,7 +4,7 @@ _epistemic() {
     local word=${COMP_WORDS[COMP_CWORD]} before=${COMP_WORDS[COMP_CWORD - 1]} command=${COMP_WORDS[1]}
     COMPREPLY=()
     if [ "$COMP_CWORD" -eq 1 ]; then
-        COMPREPLY=($(compgen -W "plan validate eval state contract same check trial" -- "$word"))
+        COMPREPLY=($(compgen -W "plan validate eval state contract same check trial apart" -- "$word"))
         return
     fi
     case $command in

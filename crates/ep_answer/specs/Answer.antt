@@ -4,7 +4,7 @@ use Rattle.std.specs.Fmt.{decimal}
 use Rattle.ep_plan.specs.declared.verdicts.Verdict.{Verdict}
 use Rattle.ep_plan.specs.declared.verdicts.Verdict.TheVariants as verdict
 use Rattle.ep_answer.specs.declared.answer.Answer.{Answer}
-use Rattle.ep_answer.specs.declared.answer.Answer.TheVariants.{Refused, Misused, NoSuchGuide, Unreadable, Checked, OfSearch, Judged, Stopped, TrueAt, Shown, Contraction, Bisimilar, Different, Tried}
+use Rattle.ep_answer.specs.declared.answer.Answer.TheVariants.{Refused, Misused, NoSuchGuide, Unreadable, Checked, OfSearch, Judged, Stopped, TrueAt, Shown, Contraction, Bisimilar, Different, WideContraction, ToldApart, Tried}
 use Rattle.ep_answer.specs.declared.answer.Counts.{Counts}
 use Rattle.ep_answer.specs.declared.planned.Planned.{Planned}
 use Rattle.ep_answer.specs.declared.planned.Planned.TheVariants as planned
@@ -148,7 +148,7 @@ trial_lines t =
 abbrev pub answer_text : Answer → List ℕ
 answer_text (Refused subject cause) =
     line (codes "refused: " ++ subject_text subject ++ codes ": " ++ cause_text cause)
-answer_text Misused = line (codes "usage: plan|validate|eval|state|contract|same|check|trial")
+answer_text Misused = line (codes "usage: plan|validate|eval|state|contract|same|check|trial|apart")
 answer_text NoSuchGuide = line (codes "usage: no such guide")
 answer_text (Unreadable subject) = line (codes "fault: " ++ subject_text subject ++ codes " cannot be read")
 answer_text (Checked counts layout) = line (counts_text counts) ++ layout
@@ -160,6 +160,8 @@ answer_text (Shown state) = state
 answer_text (Contraction state bytes) = state ++ line (codes "bytes " ++ string_bytes bytes)
 answer_text Bisimilar = line (codes "bisimilar")
 answer_text Different = line (codes "different")
+answer_text (WideContraction whose n) = line (codes "spent: " ++ whose_text whose ++ codes "contracted worlds " ++ decimal n)
+answer_text (ToldApart formula) = formula
 answer_text (Tried trial) = trial_lines trial
 
 abbrev pub answer_status : Answer → Status
@@ -176,4 +178,6 @@ answer_status (Shown state) = status.Ok
 answer_status (Contraction state bytes) = status.Ok
 answer_status Bisimilar = status.Ok
 answer_status Different = status.No
+answer_status (WideContraction whose n) = status.Undecided
+answer_status (ToldApart formula) = status.No
 answer_status (Tried trial) = end_status trial.end

@@ -58,6 +58,10 @@ pub enum Answer {
     Contraction { state: Text, bytes: String },
     Bisimilar,
     Different,
+    /// The contraction of what a plan leaves has too many worlds, so many.
+    WideContraction { whose: Whose, worlds: u32 },
+    /// The text of a formula that tells two states apart.
+    ToldApart(Text),
     Tried(Trial),
 }
 
@@ -76,8 +80,13 @@ impl Drop for Answer {
                 bytes: _bytes,
             } => {}
             Answer::Shown(_text) => {}
+            Answer::ToldApart(_text) => {}
             Answer::Misused | Answer::NoSuchGuide | Answer::Bisimilar | Answer::Different => {}
             Answer::Unreadable(_) | Answer::Judged(_) | Answer::Stopped(_, _) => {}
+            Answer::WideContraction {
+                whose: _,
+                worlds: _,
+            } => {}
             Answer::TrueAt {
                 count: _,
                 designated: _,
@@ -99,7 +108,8 @@ impl Answer {
             Answer::Judged(verdict) => verdict_status(*verdict),
             Answer::Stopped(_, stop) => stop.status(),
             Answer::TrueAt { .. } | Answer::Bisimilar => Status::Ok,
-            Answer::Different => Status::No,
+            Answer::Different | Answer::ToldApart(_) => Status::No,
+            Answer::WideContraction { .. } => Status::Undecided,
             Answer::Tried(trial) => trial.end.status(),
         }
     }
@@ -112,7 +122,7 @@ impl fmt::Display for Answer {
         match self {
             Answer::Refused(subject, cause) => write!(f, "refused: {subject}: {cause}\n"),
             Answer::Misused => {
-                f.write_str("usage: plan|validate|eval|state|contract|same|check|trial\n")
+                f.write_str("usage: plan|validate|eval|state|contract|same|check|trial|apart\n")
             }
             Answer::NoSuchGuide => f.write_str("usage: no such guide\n"),
             Answer::Unreadable(subject) => write!(f, "fault: {subject} cannot be read\n"),
@@ -130,9 +140,13 @@ impl fmt::Display for Answer {
                 write!(f, "true at {count} of {designated}\n")
             }
             Answer::Shown(state) => write!(f, "{}", Plain(state)),
+            Answer::ToldApart(formula) => write!(f, "{}", Plain(formula)),
             Answer::Contraction { state, bytes } => { write!(f, "{}bytes {bytes}\n", Plain(state)) }
             Answer::Bisimilar => f.write_str("bisimilar\n"),
             Answer::Different => f.write_str("different\n"),
+            Answer::WideContraction { whose, worlds } => {
+                write!(f, "spent: {whose}contracted worlds {worlds}\n")
+            }
             Answer::Tried(trial) => write!(f, "{trial}"),
         }
     }

@@ -7,6 +7,7 @@ pub mod JointLemmas
 pub mod Results
 pub mod GrowLemmas
 pub mod TableLemmas
+pub mod MissedLemmas
 pub mod UnionLemmas
 pub mod ClassLemmas
 pub mod QuotientLemmas

@@ -8,7 +8,7 @@ use Rattle.ep_theory.specs.Kripke.{Kripke, IsState, links_of, truth_of, atom_at,
 use Rattle.ep_theory.proofs.CallerLemmas.{All-at, IsIn-at, IsIn-successors, from_successors, last_or_before, links_within, same_places}
 use Rattle.ep_apart.specs.declared.lines.Line.{Line}
 use Rattle.ep_apart.specs.Lines.{formula_of}
-use Rattle.ep_apart.specs.Tables.{Tells, IsCell, IsRow, IsTable, IsBefore, IsGrid, cell, in_row, told_count, told_row, told_table, IsFullRow, Grows, IsConjunction, IsLone, IsAnswered, IsNextCell}
+use Rattle.ep_apart.specs.Tables.{Tells, IsCell, IsRow, IsTable, IsBefore, IsGrid, cell, in_row, told_count, told_row, told_table, IsFullRow, Grows, IsConjunction, IsLone, IsLoneLink, IsAnswered, IsNextCell}
 use Rattle.ep_apart.proofs.GrowLemmas.{grows_refl, grows_trans}
 use Rattle.ep_apart.proofs.ToldLemmas.{tells_later, tells_all, tells_possible, tells_known, cell_on, row_on, table_on, cell_next}
 
@@ -151,19 +151,28 @@ all_answered Q q table n c d l h a = ⊎_elim
     lt_or_le : (m n : ℕ) → (m < n) ⊎ (n ≤ m)
     lt_or_le m n = grind arith
 
-pub next_possible : (Q : Kripke) (table : List (List (Option ℕ))) (old mid new : List Line) (xs ys : List ℕ) (agent : AgentId) (c d j r : ℕ) → xs ≡ successors (links_of Q agent.n) c → ys ≡ successors (links_of Q agent.n) d →
-    IsLone table xs ys old mid (Some j) → formula_of new r ≡ Not (Knows agent (Not (formula_of mid j))) → r < length new → IsNextCell Q table old new c d (Some r)
-next_possible Q table old mid new xs ys agent c d j r e f h p w k t =
-    let x = h Q k t in
-    tells_possible Q k mid new j r c d x.0 agent (from_successors c x.0 (links_of Q agent.n) (subst (IsIn x.0) e x.1))
-    (record { within = x.2.within; here = x.2.here; nowhere = λ y i. x.2.nowhere y (subst (IsIn y) (sym f) (IsIn-successors d y (links_of Q agent.n) i)); shallow = x.2.shallow }) p w
+-- a lone line by the agent's links
+pub lone_link : (Q : Kripke) (table : List (List (Option ℕ))) (a c d : ℕ) (old new : List Line) (xs ys : List ℕ) (o : Option ℕ) → xs ≡ successors (links_of Q a) c → ys ≡ successors (links_of Q a) d →
+    IsLone table xs ys old new o → IsLoneLink Q table a c d old new o
+lone_link Q table a c d old new xs ys None e f h = (h.0, answered_by Q table a c d xs ys e f h.1)
+lone_link Q table a c d old new xs ys (Some j) e f h = λ k t.
+    let x = h Q k t in (
+      x.0,
+      from_successors c x.0 (links_of Q a) (subst (IsIn x.0) e x.1),
+      record { within = x.2.within; here = x.2.here; nowhere = λ y i. x.2.nowhere y (subst (IsIn y) (sym f) (IsIn-successors d y (links_of Q a) i)); shallow = x.2.shallow },
+    )
 
-pub next_known : (Q : Kripke) (table : List (List (Option ℕ))) (old mid new : List Line) (xs ys : List ℕ) (agent : AgentId) (c d j r : ℕ) → xs ≡ successors (links_of Q agent.n) c → ys ≡ successors (links_of Q agent.n) d →
-    IsLone table ys xs old mid (Some j) → formula_of new r ≡ Knows agent (Not (formula_of mid j)) → r < length new → IsNextCell Q table old new c d (Some r)
-next_known Q table old mid new xs ys agent c d j r e f h p w k t =
-    let x = h Q k t in
-    tells_known Q k mid new j r c d x.0 agent (from_successors d x.0 (links_of Q agent.n) (subst (IsIn x.0) f x.1))
-    (record { within = x.2.within; here = x.2.here; nowhere = λ y i. x.2.nowhere y (subst (IsIn y) (sym e) (IsIn-successors c y (links_of Q agent.n) i)); shallow = x.2.shallow }) p w
+pub next_possible : (Q : Kripke) (table : List (List (Option ℕ))) (old mid new : List Line) (agent : AgentId) (c d j r : ℕ) →
+    IsLoneLink Q table agent.n c d old mid (Some j) → formula_of new r ≡ Not (Knows agent (Not (formula_of mid j))) → r < length new → IsNextCell Q table old new c d (Some r)
+next_possible Q table old mid new agent c d j r h p w k t =
+    let x = h k t in
+    tells_possible Q k mid new j r c d x.0 agent x.1 x.2 p w
+
+pub next_known : (Q : Kripke) (table : List (List (Option ℕ))) (old mid new : List Line) (agent : AgentId) (c d j r : ℕ) →
+    IsLoneLink Q table agent.n d c old mid (Some j) → formula_of new r ≡ Knows agent (Not (formula_of mid j)) → r < length new → IsNextCell Q table old new c d (Some r)
+next_known Q table old mid new agent c d j r h p w k t =
+    let x = h k t in
+    tells_known Q k mid new j r c d x.0 agent x.1 x.2 p w
 
 -- a cell of the next level
 pub next_level : (Q : Kripke) → IsState Q → (k : ℕ) (table : List (List (Option ℕ))) (old new : List Line) (c d : ℕ) (o : Option ℕ) → IsTable Q k old table → c < Q.worlds → d < Q.worlds → cell table c d ≡ None →

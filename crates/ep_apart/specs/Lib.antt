@@ -1,6 +1,7 @@
 pub mod Lines
 pub mod Telling
 pub mod Tables
+pub mod Missed
 pub mod Joint
 pub mod Union
 pub mod Classes

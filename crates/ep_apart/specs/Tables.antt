@@ -94,6 +94,11 @@ IsLone table xs ys old new (Some j) = (Q : Kripke) (k : ℕ) → IsTable Q k old
 abbrev pub IsAnswered : Kripke → List (List (Option ℕ)) → ℕ → ℕ → ℕ → Type 0
 IsAnswered Q table a c d = (x : ℕ) → IsIn (c, x) (links_of Q a) → (y : ℕ) × IsIn (d, y) (links_of Q a) × (cell table x y ≡ None)
 
+-- a line that tells a world to which the agent links c from all to which it links d; none where each link is answered
+abbrev pub IsLoneLink : Kripke → List (List (Option ℕ)) → ℕ → ℕ → ℕ → List Line → List Line → Option ℕ → Type 0
+IsLoneLink Q table a c d old new None = (new ≡ old) × IsAnswered Q table a c d
+IsLoneLink Q table a c d old new (Some j) = (k : ℕ) → IsTable Q k old table → (x : ℕ) × IsIn (c, x) (links_of Q a) × Tells Q k new j x (λ y. IsIn (d, y) (links_of Q a))
+
 -- a line that tells c from d one level up; none where each answers the links of the other
 abbrev pub IsNextCell : Kripke → List (List (Option ℕ)) → List Line → List Line → ℕ → ℕ → Option ℕ → Type 0
 IsNextCell Q table old new c d None = ((a : ℕ) → IsAnswered Q table a c d) × ((a : ℕ) → IsAnswered Q table a d c)

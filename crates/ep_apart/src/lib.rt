@@ -5,6 +5,7 @@ mod apart;
 mod hints;
 pub mod limits;
 mod lines;
+mod missed;
 mod parts;
 mod prune;
 mod quotient;

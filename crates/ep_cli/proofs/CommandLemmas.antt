@@ -6,10 +6,11 @@ use Rattle.ep_io.specs.Library.{LibraryState}
 use Rattle.ep_trial.specs.TrialText.{trial_text}
 use Rattle.ep_words.specs.declared.command.Command.{Command}
 use Rattle.ep_words.specs.declared.command.Command.TheVariants as command
-use Rattle.ep_cli.specs.Commands.{CommandWork, LacksGuide, Names, NamesOne, NamesTwo, word_at}
+use Rattle.ep_cli.specs.Commands.{CommandWork, ComparedWords, LacksGuide, Names, NamesOne, NamesTwo, word_at}
 use Rattle.ep_planning.specs.Planning.{Guided, Plans}
 use Rattle.ep_question.specs.Questions.{PlanWork, Contractions, Evals, States, Validates, TaskAndPlan}
-use Rattle.ep_compare.specs.Comparing.{SameWork, TaskAndPlans}
+use Rattle.ep_compare.specs.Comparing.{CompareWork, TaskAndPlans}
+use Rattle.ep_compare.specs.declared.comparison.Comparison.{Comparison}
 use Rattle.ep_answer.specs.declared.answer.Answer.{Answer}
 use Rattle.ep_answer.specs.declared.answer.Stop.{Stop}
 use Rattle.ep_answer.specs.declared.cause.Subject.{Subject}
@@ -81,7 +82,7 @@ pub serves_check_command : (words : List (List ℕ)) (guides : ℕ) (file : List
     → file ≡ word_at words 1 → Serves (λ files. TaskFile files file Checks) (OnlyFile Task file) ⊥ old new r → ServesCommand words guides old new r k
 serves_check_command words guides file old new r k is e h = subst (ServesCommand words guides old new r) (sym is) (serves_check words guides file old new r e h)
 
--- ---- same
+-- ---- same and apart
 
 two_names : (words : List (List ℕ)) (file one two : List ℕ) → file ≡ word_at words 1 → one ≡ word_at words 2 → two ≡ word_at words 3
     → (s : Subject) (name : List ℕ) → TaskAndPlans file one two s name → NamesTwo words s name
@@ -89,19 +90,22 @@ two_names words file one two e p q s name (inl o) = subst (λ t. NamesTwo words 
 two_names words file one two e p q s name (inr (inl o)) = subst (λ t. NamesTwo words t name) (sym o.0) (o.1.0 ∙ p, λ k. o.1.1 (p ∙ k))
 two_names words file one two e p q s name (inr (inr o)) = subst (λ t. NamesTwo words t name) (sym o.0) (o.1.0 ∙ q, λ k. o.1.1 (q ∙ k))
 
-serves_two : (words : List (List ℕ)) (file one two : List ℕ) (old new : LibraryState) (r : Result Answer Stop)
+pub serves_two : (words : List (List ℕ)) (comparison : Comparison) (file one two : List ℕ) (old new : LibraryState) (r : Result Answer Stop)
     → file ≡ word_at words 1 → one ≡ word_at words 2 → two ≡ word_at words 3
-    → Serves (λ files. SameWork files file one two) (TaskAndPlans file one two) ⊥ old new r
-    → Serves (λ files. SameWork files (word_at words 1) (word_at words 2) (word_at words 3)) (NamesTwo words) ⊥ old new r
-serves_two words file one two old new r e p q h =
-    Serves-more (λ files. SameWork files file one two) (λ files. SameWork files (word_at words 1) (word_at words 2) (word_at words 3)) (TaskAndPlans file one two) (NamesTwo words) ⊥ old new r
-    (λ files o w. subst (λ f. SameWork files f (word_at words 2) (word_at words 3) o) e (subst (λ p. SameWork files file p (word_at words 3) o) p (subst (λ q. SameWork files file one q o) q w)))
+    → Serves (λ files. CompareWork files comparison file one two) (TaskAndPlans file one two) ⊥ old new r
+    → Serves (λ files. ComparedWords files words comparison) (NamesTwo words) ⊥ old new r
+serves_two words comparison file one two old new r e p q h =
+    Serves-more (λ files. CompareWork files comparison file one two) (λ files. ComparedWords files words comparison) (TaskAndPlans file one two) (NamesTwo words) ⊥ old new r
+    (λ files o w. subst (λ f. CompareWork files comparison f (word_at words 2) (word_at words 3) o) e (subst (λ p. CompareWork files comparison file p (word_at words 3) o) p (subst (λ q. CompareWork files comparison file one q o) q w)))
     (two_names words file one two e p q) h
 
-pub serves_same : (words : List (List ℕ)) (guides : ℕ) (file one two : List ℕ) (old new : LibraryState) (r : Result Answer Stop) (k : Command) → k ≡ command.Same
-    → file ≡ word_at words 1 → one ≡ word_at words 2 → two ≡ word_at words 3
-    → Serves (λ files. SameWork files file one two) (TaskAndPlans file one two) ⊥ old new r → ServesCommand words guides old new r k
-serves_same words guides file one two old new r k is e p q h = subst (ServesCommand words guides old new r) (sym is) (serves_two words file one two old new r e p q h)
+pub serves_same : (words : List (List ℕ)) (guides : ℕ) (old new : LibraryState) (r : Result Answer Stop) (k : Command) → k ≡ command.Same
+    → Serves (λ files. ComparedWords files words Comparison.Same) (NamesTwo words) ⊥ old new r → ServesCommand words guides old new r k
+serves_same words guides old new r k is h = subst (ServesCommand words guides old new r) (sym is) h
+
+pub serves_apart : (words : List (List ℕ)) (guides : ℕ) (old new : LibraryState) (r : Result Answer Stop) (k : Command) → k ≡ command.Apart
+    → Serves (λ files. ComparedWords files words Comparison.Apart) (NamesTwo words) ⊥ old new r → ServesCommand words guides old new r k
+serves_apart words guides old new r k is h = subst (ServesCommand words guides old new r) (sym is) h
 
 -- ---- plan and trial
 

@@ -3,14 +3,15 @@ use Rattle.std.specs.Prelude.{◌≡◌, ◌⊎◌, ℕ, ◌≤◌, List, [], sl
 use Rattle.ep_trial.specs.TrialText.{trial_text}
 use Rattle.ep_words.specs.Words.{IsCommand}
 use Rattle.ep_words.specs.declared.command.Command.{Command}
-use Rattle.ep_words.specs.declared.command.Command.TheVariants.{Plan, Validate, Eval, State, Contract, Same, Check, Trial}
+use Rattle.ep_words.specs.declared.command.Command.TheVariants.{Plan, Validate, Eval, State, Contract, Same, Check, Trial, Apart}
 use Rattle.ep_io.specs.Library.{FileMap}
 use Rattle.ep_answer.specs.declared.answer.Answer.TheVariants.{Misused}
 use Rattle.ep_answer.specs.declared.cause.Subject.{Subject}
 use Rattle.ep_answer.specs.declared.cause.Subject.TheVariants as the
 use Rattle.ep_reading.specs.PlanFile.{NamesPlan}
 use Rattle.ep_checking.specs.Checking.{Checks}
-use Rattle.ep_compare.specs.Comparing.{SameWork}
+use Rattle.ep_compare.specs.Comparing.{CompareWork}
+use Rattle.ep_compare.specs.declared.comparison.Comparison.{Comparison}
 use Rattle.ep_question.specs.Questions.{Contractions, Evals, States, Validates, PlanWork}
 use Rattle.ep_planning.specs.Planning.{Plans, Guided}
 use Rattle.ep_planning.specs.Trials.{Tries}
@@ -19,6 +20,10 @@ use Rattle.ep_reading.specs.Served.{Outcome, TaskFile, TaskRead, answers}
 -- the word at a place
 abbrev pub word_at : List (List ℕ) → ℕ → List ℕ
 word_at words n = slice_index_or words n []
+
+-- what is asked of a task and two plans
+abbrev pub ComparedWords : FileMap → List (List ℕ) → Comparison → Outcome → Type 0
+ComparedWords files words comparison = CompareWork files comparison (word_at words 1) (word_at words 2) (word_at words 3)
 
 -- ---- all commands
 
@@ -30,9 +35,10 @@ CommandWork files words guides Validate outcome = PlanWork files (word_at words 
 CommandWork files words guides Eval outcome = PlanWork files (word_at words 1) (word_at words 2) (Evals (word_at words 3)) outcome
 CommandWork files words guides State outcome = PlanWork files (word_at words 1) (word_at words 2) States outcome
 CommandWork files words guides Contract outcome = PlanWork files (word_at words 1) (word_at words 2) Contractions outcome
-CommandWork files words guides Same outcome = SameWork files (word_at words 1) (word_at words 2) (word_at words 3) outcome
+CommandWork files words guides Same outcome = ComparedWords files words Comparison.Same outcome
 CommandWork files words guides Check outcome = TaskFile files (word_at words 1) Checks outcome
 CommandWork files words guides (Trial n) outcome = Guided guides 0 (TaskRead (trial_text n) (Tries n)) outcome
+CommandWork files words guides Apart outcome = ComparedWords files words Comparison.Apart outcome
 
 -- the whole work: the words are those of no command, or of one
 abbrev pub Work : FileMap → List (List ℕ) → ℕ → Outcome → Type 0
@@ -64,6 +70,7 @@ Names words Eval subject name = NamesOne words subject name
 Names words State subject name = NamesOne words subject name
 Names words Contract subject name = NamesOne words subject name
 Names words Same subject name = NamesTwo words subject name
+Names words Apart subject name = NamesTwo words subject name
 Names words command subject name = ⊥
 
 -- ---- misused words

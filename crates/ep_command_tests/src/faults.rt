@@ -46,7 +46,7 @@ fn fails_at(
 // The fetch with this number fails.
 #[test]
 fn faults_name_their_file(rt: HostRuntime) -> Result<(), Fail> {
-    let rows: [(&[&str], u32, &str); 5] = [
+    let rows: [(&[&str], u32, &str); 6] = [
         (&["validate", "t", "a"], 0, "fault: task cannot be read\n"),
         (&["validate", "t", "a"], 1, "fault: plan cannot be read\n"),
         (
@@ -63,6 +63,11 @@ fn faults_name_their_file(rt: HostRuntime) -> Result<(), Fail> {
             &["same", "t", "a", "b"],
             2,
             "fault: second plan cannot be read\n",
+        ),
+        (
+            &["apart", "t", "a", "b"],
+            1,
+            "fault: first plan cannot be read\n",
         ),
     ];
     for (words, fetch, text) in rows {

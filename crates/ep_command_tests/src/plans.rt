@@ -1,7 +1,7 @@
 // What the commands with plans answer.
 
 use crate::memory::tells_of_plans;
-use crate::tasks::{COIN, FAR, LETTER, LONE, MSG, SWAP, TOLL, TWO, WAIT};
+use crate::tasks::{COIN, FAR, LETTER, LONE, MSG, SIDES, SWAP, TOLL, TWO, WAIT, WIDE};
 use std::alloc::Global;
 use std::process::Abort;
 use std::test::Fail;
@@ -37,6 +37,10 @@ const TWICE: &str = "plan 1\ntask coin\nactions 1\ntwice\nend\n";
 const THREE: &str = "plan 1\ntask far\nactions 1\nthree\nend\n";
 
 const FOUR: &str = "plan 1\ntask far\nactions 1\nfour\nend\n";
+
+const OPENS: &str = "plan 1\ntask sides\nactions 1\nopen\nend\n";
+
+const SPLITS: &str = "plan 1\ntask wide\nactions 1\nsplit\nend\n";
 
 const RIDES: &str = "plan 2\ntask toll\n# cheapest\ncost 7\nactions 2\nwalk\nride\nend\n";
 
@@ -343,10 +347,111 @@ const COMPARED: [SameRow; 6] = [
     ),
 ];
 
+fn compares(rt: &impl Abort, alloc: Global, rows: &[SameRow]) -> Result<(), Fail> {
+    for (words, task, [one, two], code, text) in rows {
+        tells_of_plans(rt, alloc, (task, [one, two]), words, *code, text)?;
+    }
+    Ok(())
+}
+
 #[test]
 fn states_are_compared(rt: HostRuntime) -> Result<(), Fail> {
-    for (words, task, plans, code, text) in COMPARED {
-        tells_of_plans(&rt, rt.alloc(), (task, plans), words, code, text)?;
-    }
+    compares(&rt, rt.alloc(), &COMPARED)?;
+    Ok(())
+}
+
+const TOLD_APART: [SameRow; 12] = [
+    (
+        &["apart", "t", "-", "a"],
+        COIN,
+        [TWICE, ""],
+        0,
+        "bisimilar\n",
+    ),
+    (
+        &["apart", "t", "-", "a"],
+        COIN,
+        [PEEK, ""],
+        1,
+        "apart: first\n0 atom heads\n1 knows ann 0\n2 not 1\n",
+    ),
+    // Chains of three and of four worlds, which differ three links away.
+    (
+        &["apart", "t", "a", "b"],
+        FAR,
+        [THREE, FOUR],
+        1,
+        "apart: first\n0 true\n1 not 0\n2 knows ann 1\n3 not 2\n4 knows ann 3\n5 knows ann 4\n6 not 5\n",
+    ),
+    // The states differ in their designated worlds alone.
+    (
+        &["apart", "t", "-", "a"],
+        SIDES,
+        [OPENS, ""],
+        1,
+        "apart: second\n0 atom heads\n1 not 0\n",
+    ),
+    (
+        &["apart", "t", "a", "-"],
+        SIDES,
+        [OPENS, ""],
+        1,
+        "apart: first\n0 atom heads\n1 not 0\n",
+    ),
+    (
+        &["apart", "t", "-", "a"],
+        WIDE,
+        [SPLITS, ""],
+        7,
+        "spent: second plan, contracted worlds 512\n",
+    ),
+    (
+        &["apart", "t", "a", "a"],
+        WIDE,
+        [SPLITS, ""],
+        7,
+        "spent: first plan, contracted worlds 512\n",
+    ),
+    (
+        &["apart", "t", "-", "a"],
+        TWO,
+        [SAY, ""],
+        1,
+        "no: second plan, step 1\n",
+    ),
+    // The first plan is run before the second file is fetched.
+    (
+        &["apart", "t", "a", "u"],
+        TWO,
+        [SAY, ""],
+        1,
+        "no: first plan, step 1\n",
+    ),
+    (
+        &["apart", "t", "b", "u"],
+        COIN,
+        ["", PEEK],
+        3,
+        "refused: second plan: no such file\n",
+    ),
+    (
+        &["apart", "t", "a", "-"],
+        COIN,
+        [SAY, ""],
+        3,
+        "refused: first plan: other task\n",
+    ),
+    (
+        &["apart", "u", "-", "-"],
+        COIN,
+        ["", ""],
+        3,
+        "refused: task: no such file\n",
+    ),
+];
+
+#[test]
+fn states_are_told_apart(rt: HostRuntime) -> Result<(), Fail> {
+    compares(&rt, rt.alloc(), &TOLD_APART)?;
     Ok(())
 }

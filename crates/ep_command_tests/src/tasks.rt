@@ -165,3 +165,31 @@ action walk cost 3 { assign when not mid { mid := true; } }
 action ride cost 4 { assign when mid { done := true; } }
 goal done;
 ";
+
+// `open` makes a real world of each of the two.
+pub const SIDES: &str = "task sides;
+objects { ann : agent; }
+fluents { heads; }
+init {
+  world u { heads }
+  world v { }
+  designated { u }
+  links all all;
+}
+action open {
+  event stay pre true { } event turn pre true { heads := not heads; }
+  designated { stay, turn } links all same;
+}
+goal knows ann heads;
+";
+
+pub const WIDE: &str = "task wide;
+objects { ann : agent; }
+fluents { p0; p1; p2; p3; p4; p5; p6; p7; }
+init { vary { p0, p1, p2, p3, p4, p5, p6, p7 } law true; designated true; }
+action split {
+  event e pre true { } event f pre true { }
+  designated { e, f } links all { e -> e };
+}
+goal true;
+";

@@ -17,7 +17,7 @@ fn serves(rt: &impl Abort, alloc: Global, rows: &[Row]) -> Result<(), Fail> {
     Ok(())
 }
 
-const USAGE: &str = "usage: plan|validate|eval|state|contract|same|check|trial\n";
+const USAGE: &str = "usage: plan|validate|eval|state|contract|same|check|trial|apart\n";
 
 const WORDS: [Row; 12] = [
     (&[], COIN0, 2, USAGE),

@@ -1,1 +1,2 @@
+pub mod ApartText
 pub mod Comparing

@@ -1,6 +1,10 @@
-//! The command with a task and two plans: `same`.
+//! The commands with a task and two plans: `same` and `apart`.
 #![tactic(auto)]
 
-mod same;
+mod apart_text;
+mod comparison;
+mod states;
+mod two_plans;
 
-pub use same::compare_plans;
+pub use comparison::Comparison;
+pub use two_plans::compare_plans;

@@ -43,7 +43,7 @@ const PLANS: [Row; 7] = [
     ),
 ];
 
-const OTHERS: [Row; 9] = [
+const OTHERS: [Row; 10] = [
     (&["validate", "a", "-"], "validate", &[]),
     (&["validate", "a", "b"], "validate", &[]),
     (&["eval", "a", "-", "--x"], "eval", &[]),
@@ -53,9 +53,10 @@ const OTHERS: [Row; 9] = [
     (&["check", "a"], "check", &[]),
     (&["trial", "1"], "trial", &[1]),
     (&["trial", "8"], "trial", &[8]),
+    (&["apart", "a", "-", "b"], "apart", &[]),
 ];
 
-const REFUSED: [&[&str]; 29] = [
+const REFUSED: [&[&str]; 30] = [
     &[],
     &["fly"],
     &["plan"],
@@ -85,6 +86,7 @@ const REFUSED: [&[&str]; 29] = [
     &["check", "a", "b"],
     &["trial", "9"],
     &["trial", "0"],
+    &["apart", "a", "-x", "-"],
 ];
 
 fn strings(alloc: Global, words: &[&str]) -> Result<Vec<String>, AllocError> {
@@ -120,6 +122,7 @@ fn name(found: &Result<Command, Usage>) -> &'static str {
         Ok(Command::Same) => "same",
         Ok(Command::Check) => "check",
         Ok(Command::Trial { .. }) => "trial",
+        Ok(Command::Apart) => "apart",
         Err(Usage {}) => "usage",
     }
 }

@@ -9,7 +9,7 @@ use Rattle.ep_theory.specs.Rising.{IsIn}
 use Rattle.ep_theory.specs.Kripke.{Kripke, IsState, links_of, successors}
 use Rattle.ep_theory.specs.Walks.{IsStep, IsWalk, last_of}
 use Rattle.ep_theory.proofs.CallerLemmas.{and_parts, and_whole, all_at, to_all, last_or_before, from_successors, IsIn-successors, links_within}
-use Rattle.ep_truth.specs.Common.{AllWalks, IsClosed, HaveSameWalks}
+use Rattle.ep_truth.specs.Common.{AllWalks, IsClosed, IsGreatestClosed, HaveSameWalks}
 use Rattle.ep_truth.specs.Labels.{knows_test}
 use Rattle.ep_truth.proofs.CommonLemmas.{member_below}
 
@@ -47,6 +47,19 @@ module _ (S : Kripke) (g : List Bool) where
 
   pub walks_after : (old row new : List Bool) → HaveSameWalks S g old row → HaveSameWalks S g row new → HaveSameWalks S g old new
   walks_after old row new f h w = (λ all. (f w).0 ((h w).0 all), λ all. (h w).1 ((f w).1 all))
+
+  -- the worlds from which every walk stays in a row are the greatest closed part of it
+  pub walks_are_greatest : IsState S → (inner row : List Bool) → length inner ≡ S.worlds → length row ≡ S.worlds →
+      ((w : ℕ) → w < S.worlds → IsTrue (value_at row w) ↔ AllWalks S g inner w) → IsGreatestClosed S g inner row
+  walks_are_greatest s inner row long_inner long each = record {
+    within = λ k h. let l : k < S.worlds = omega (arith, true_within row k (true_get row k h), long) in get_true inner k ((each k l).0 (true_get row k h) [] tt);
+    closed = λ w v p h.
+        let l : w < S.worlds = omega (arith, true_within row w h, long) in
+        (each v (links_within S s p.0 w v p.2).1).1 (λ vs q. (each w l).0 h (v ∷ vs) (p, q));
+    greatest = λ other within closed k h.
+        let l : k < S.worlds = omega (arith, true_within inner k (true_get inner k (within k h)), long_inner) in
+        get_true row k ((each k l).1 (λ vs q. let u = last_of k vs in true_get inner u (within u (get_true other u (closed_stays other closed k vs (true_get other k h) q)))));
+  }
 
 -- how far the agents of a group have gone: those below a; `none` says that no link of theirs left the row
 pub record IsSweeping (S : Kripke) (g old : List Bool) (a : ℕ) (none : Bool) (row : List Bool) : Type 0 where

@@ -3,7 +3,7 @@ use Rattle.std.specs.Prelude.{ℕ, ◌<◌, ◌↔◌, ◌⊎◌, Bool, not, Lis
 use Rattle.ep_theory.specs.Rising.{IsIn}
 use Rattle.ep_theory.specs.Kripke.{Kripke, links_of}
 use Rattle.ep_theory.specs.Walks.{IsStep, IsWalk, last_of}
-use Rattle.ep_logic.specs.Rows.{value_at}
+use Rattle.ep_logic.specs.Rows.{value_at, Within}
 use Rattle.ep_kripke.specs.Sources.{row_at}
 
 -- every walk of the group from the world ends where the row is true
@@ -13,6 +13,12 @@ AllWalks S g row w = (vs : List ℕ) → IsWalk S g w vs → IsTrue (value_at ro
 -- no link of the group leaves the row
 abbrev pub IsClosed : Kripke → List Bool → List Bool → Type 0
 IsClosed S g row = (w v : ℕ) → IsStep S g w v → IsTrue (value_at row w) → IsTrue (value_at row v)
+
+-- the row is closed within the first one, and each row that is so is within it
+pub record IsGreatestClosed (S : Kripke) (g inner row : List Bool) : Type 0 where
+  pub within : Within row inner
+  pub closed : IsClosed S g row
+  pub greatest : (other : List Bool) → Within other inner → IsClosed S g other → Within other row
 
 -- from the same worlds every walk of the group stays in the one row and in the other
 abbrev pub HaveSameWalks : Kripke → List Bool → List Bool → List Bool → Type 0

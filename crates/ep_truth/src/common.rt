@@ -3,7 +3,7 @@ ghost use Rattle.ep_logic.specs.AgentSets.{is_nobody};
 ghost use Rattle.ep_theory.specs.Kripke.{IsState, links_of};
 ghost use Rattle.ep_logic.specs.Numbers.{numbers_where, table};
 ghost use Rattle.ep_logic.specs.Rows.{value_at, both, Within};
-ghost use Rattle.ep_truth.specs.Common.{AllWalks, IsClosed, HaveSameWalks, GainsLinks, LeadBack, is_out};
+ghost use Rattle.ep_truth.specs.Common.{AllWalks, IsClosed, IsGreatestClosed, HaveSameWalks, GainsLinks, LeadBack, is_out};
 ghost use Rattle.ep_truth.specs.Labels.{knows_test};
 
 use crate::labels::label_knows;
@@ -25,6 +25,7 @@ pub fn label_common(
     ensures long { IfOk result (λ row. length row ≡ s.now.worlds) }
     ensures each { IfOk result (λ row. (w : ℕ) → w < s.now.worlds →
         IsTrue (value_at row w) ↔ AllWalks s.now group.now inner.now w) }
+    ensures greatest { IfOk result (IsGreatestClosed s.now group.now inner.now) }
 {
     let mut row = inner.copy(alloc)?;
     if sweep(alloc, s, group, &mut row)? {
@@ -33,7 +34,8 @@ pub fn label_common(
     if sweep(alloc, s, group, &mut row)? {
         return Ok(row);
     }
-    walk_back(alloc, s, group, &row)
+    let common = walk_back(alloc, s, group, &row)?;
+    Ok(common)
 }
 
 // Takes out of the row, for one agent of the group after another, the worlds from which a link leaves it, and says
@@ -41,6 +43,7 @@ pub fn label_common(
 fn sweep(alloc: Global, s: &State, group: &Agents, row: &mut Bits) -> Result<bool, OutOfMemory>
     requires group { IsTrue (is_nobody (drop s.now.agents group.now)) }
     requires long { length row.old ≡ s.now.worlds }
+    ensures valid { IsState s.now }
     ensures long { OnOk result (length row.new ≡ s.now.worlds) }
     ensures same { OnOk result (HaveSameWalks s.now group.now row.old row.new) }
     ensures closed { IfOk result (λ none. IsTrue none → IsClosed s.now group.now row.new) }

@@ -3,7 +3,7 @@ use Rattle.std.proofs.Common.{rules, Option, Some, None, Result, MatchOption, If
 use Rattle.std.proofs.lemmas.Fmt.{decimal_injective}
 use Rattle.ep_words.specs.declared.command.Command.{Command}
 use Rattle.ep_words.specs.declared.command.Usage.{Usage}
-use Rattle.ep_words.specs.declared.command.Command.TheVariants.{Plan, Validate, Eval, State, Contract, Same, Check, Trial}
+use Rattle.ep_words.specs.declared.command.Command.TheVariants.{Plan, Validate, Eval, State, Contract, Same, Check, Trial, Apart}
 use Rattle.ep_words.specs.Options.{Word, no_options, AreOptions, plan_of}
 use Rattle.ep_words.specs.Words.{IsCommand, AreArguments, IsPlanned, verb}
 use Rattle.ep_words.proofs.OptionLemmas.{options_one}
@@ -25,6 +25,7 @@ command_one (Plan b g f) Contract words here there e = search (rules, e)
 command_one (Plan b g f) Same words here there e = search (rules, e)
 command_one (Plan b g f) Check words here there e = search (rules, e)
 command_one (Plan b g f) (Trial n2) words here there e = search (rules, e)
+command_one (Plan b g f) Apart words here there e = search (rules, e)
 command_one Validate (Plan b2 g2 f2) words here there e = search (rules, e)
 command_one Validate Validate words here there e = λ _. Validate
 command_one Validate Eval words here there e = search (rules, e)
@@ -33,6 +34,7 @@ command_one Validate Contract words here there e = search (rules, e)
 command_one Validate Same words here there e = search (rules, e)
 command_one Validate Check words here there e = search (rules, e)
 command_one Validate (Trial n2) words here there e = search (rules, e)
+command_one Validate Apart words here there e = search (rules, e)
 command_one Eval (Plan b2 g2 f2) words here there e = search (rules, e)
 command_one Eval Validate words here there e = search (rules, e)
 command_one Eval Eval words here there e = λ _. Eval
@@ -41,6 +43,7 @@ command_one Eval Contract words here there e = search (rules, e)
 command_one Eval Same words here there e = search (rules, e)
 command_one Eval Check words here there e = search (rules, e)
 command_one Eval (Trial n2) words here there e = search (rules, e)
+command_one Eval Apart words here there e = search (rules, e)
 command_one State (Plan b2 g2 f2) words here there e = search (rules, e)
 command_one State Validate words here there e = search (rules, e)
 command_one State Eval words here there e = search (rules, e)
@@ -49,6 +52,7 @@ command_one State Contract words here there e = search (rules, e)
 command_one State Same words here there e = search (rules, e)
 command_one State Check words here there e = search (rules, e)
 command_one State (Trial n2) words here there e = search (rules, e)
+command_one State Apart words here there e = search (rules, e)
 command_one Contract (Plan b2 g2 f2) words here there e = search (rules, e)
 command_one Contract Validate words here there e = search (rules, e)
 command_one Contract Eval words here there e = search (rules, e)
@@ -57,6 +61,7 @@ command_one Contract Contract words here there e = λ _. Contract
 command_one Contract Same words here there e = search (rules, e)
 command_one Contract Check words here there e = search (rules, e)
 command_one Contract (Trial n2) words here there e = search (rules, e)
+command_one Contract Apart words here there e = search (rules, e)
 command_one Same (Plan b2 g2 f2) words here there e = search (rules, e)
 command_one Same Validate words here there e = search (rules, e)
 command_one Same Eval words here there e = search (rules, e)
@@ -65,6 +70,7 @@ command_one Same Contract words here there e = search (rules, e)
 command_one Same Same words here there e = λ _. Same
 command_one Same Check words here there e = search (rules, e)
 command_one Same (Trial n2) words here there e = search (rules, e)
+command_one Same Apart words here there e = search (rules, e)
 command_one Check (Plan b2 g2 f2) words here there e = search (rules, e)
 command_one Check Validate words here there e = search (rules, e)
 command_one Check Eval words here there e = search (rules, e)
@@ -73,6 +79,7 @@ command_one Check Contract words here there e = search (rules, e)
 command_one Check Same words here there e = search (rules, e)
 command_one Check Check words here there e = λ _. Check
 command_one Check (Trial n2) words here there e = search (rules, e)
+command_one Check Apart words here there e = search (rules, e)
 command_one (Trial n) (Plan b2 g2 f2) words here there e = search (rules, e)
 command_one (Trial n) Validate words here there e = search (rules, e)
 command_one (Trial n) Eval words here there e = search (rules, e)
@@ -81,6 +88,16 @@ command_one (Trial n) Contract words here there e = search (rules, e)
 command_one (Trial n) Same words here there e = search (rules, e)
 command_one (Trial n) Check words here there e = search (rules, e)
 command_one (Trial n) (Trial m) words here there e = ap Trial (decimal_injective n m (omega (arith, here.2)) (omega (arith, there.2)) (first (sym here.0 ∙ there.0)))
+command_one (Trial n) Apart words here there e = search (rules, e)
+command_one Apart (Plan b2 g2 f2) words here there e = search (rules, e)
+command_one Apart Validate words here there e = search (rules, e)
+command_one Apart Eval words here there e = search (rules, e)
+command_one Apart State words here there e = search (rules, e)
+command_one Apart Contract words here there e = search (rules, e)
+command_one Apart Same words here there e = search (rules, e)
+command_one Apart Check words here there e = search (rules, e)
+command_one Apart (Trial n2) words here there e = search (rules, e)
+command_one Apart Apart words here there e = λ _. Apart
 
 pub only_command : (words : List Word) (c d : Command) → IsCommand words c → IsCommand words d → d ≡ c
 only_command [] c d here there = absurd here

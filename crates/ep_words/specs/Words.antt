@@ -2,7 +2,7 @@
 use Rattle.std.specs.Prelude.{◌≡◌, ◌≢◌, ◌⊎◌, ◌≤◌, List, [], ◌∷◌, codes, decimal}
 use Rattle.ep_words.specs.declared.options.Options.{Options}
 use Rattle.ep_words.specs.declared.command.Command.{Command}
-use Rattle.ep_words.specs.declared.command.Command.TheVariants.{Plan, Validate, Eval, State, Contract, Same, Check, Trial}
+use Rattle.ep_words.specs.declared.command.Command.TheVariants.{Plan, Validate, Eval, State, Contract, Same, Check, Trial, Apart}
 use Rattle.ep_words.specs.Options.{Word, no_options, AreOptions, plan_of}
 
 -- not empty, and does not begin with `-`
@@ -24,6 +24,7 @@ verb Contract = codes "contract"
 verb Same = codes "same"
 verb Check = codes "check"
 verb (Trial children) = codes "trial"
+verb Apart = codes "apart"
 
 -- a file, and options that make this command
 pub record IsPlanned (words : List Word) (command : Command) : Type 0 where
@@ -62,6 +63,7 @@ AreArguments Contract words = IsTaskAndPlan words
 AreArguments Same words = IsTaskAndPlans words
 AreArguments Check words = IsTask words
 AreArguments (Trial children) words = (words ≡ decimal children ∷ []) × (1 ≤ children) × (children ≤ 8)
+AreArguments Apart words = IsTaskAndPlans words
 
 -- the words are those of the command
 abbrev pub IsCommand : List Word → Command → Type 0

@@ -21,6 +21,7 @@ pub enum Command {
     Trial {
         children: u32,
     },
+    Apart,
 }
 
 /// The words are those of no command.

@@ -119,6 +119,8 @@ fn read_command(verb: &str, words: &[String]) -> Option<Command>
         Some(Command::Trial {
             children: read_children(words)?,
         })
+    } else if verb == "apart" {
+        only_if(is_task_and_plans(words), Command::Apart)
     } else {
         None
     }

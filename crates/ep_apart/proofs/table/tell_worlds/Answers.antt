@@ -3,8 +3,8 @@ use Rattle.ep_apart.specs.Tables.{cell, told_table}
 use Rattle.ep_apart.proofs.TableLemmas.{table-bound}
 use Rattle.ep_apart.proofs.table.tell_worlds.Goals as goal
 
-pub table_of-requires-clause-room : goal.table_of-requires-clause-room
-table_of-requires-clause-room c =
+pub next_table-requires-clause-room : goal.next_table-requires-clause-room
+next_table-requires-clause-room c =
     let f = c.loop-round.invariant.few in
     let b = table-bound (cell c.loop-round.table) c.args.q.now.worlds c.args.q.now.worlds 512 c.requires.small in
     let s = c.requires.small in

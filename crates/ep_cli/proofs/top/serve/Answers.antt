@@ -1,7 +1,7 @@
 -- What a command answers for its files.
 use Rattle.std.proofs.Common.{map, string_bytes, subst, sym, ◌∙◌}
 use Rattle.ep_words.specs.Words.{IsCommand}
-use Rattle.ep_cli.proofs.CommandLemmas.{serves_validate, serves_eval, serves_state, serves_contract, serves_same, serves_check_command, serves_trial, serves_plan}
+use Rattle.ep_cli.proofs.CommandLemmas.{serves_validate, serves_eval, serves_state, serves_contract, serves_apart, serves_same, serves_check_command, serves_trial, serves_plan}
 use Rattle.ep_cli.proofs.GuideLemmas.{asked_of}
 use Rattle.ep_cli.proofs.WordLemmas.{plan_within}
 use Rattle.ep_cli.proofs.top.serve.Goals as goal
@@ -39,8 +39,7 @@ returns-in-Contract-clause-answer g c =
 
 pub returns-in-Same-clause-answer : goal.returns-in-Same-clause-answer
 returns-in-Same-clause-answer g c =
-    serves_same (map string_bytes c.args.words.now) _ c.word-in-Same.result.now c.word-in-Same-2.result.now c.word-in-Same-3.result.now _ _ c.compare_plans.result c.args.command c.in-Same.is
-    c.word-in-Same.ensures c.word-in-Same-2.ensures c.word-in-Same-3.ensures c.compare_plans.ensures.answer
+    serves_same (map string_bytes c.args.words.now) _ _ _ c.compare_words.result c.args.command c.in-Same.is c.compare_words.ensures.answer
 
 pub returns-in-Check-clause-answer : goal.returns-in-Check-clause-answer
 returns-in-Check-clause-answer g c =
@@ -49,3 +48,7 @@ returns-in-Check-clause-answer g c =
 pub returns-in-Trial-clause-answer : goal.returns-in-Trial-clause-answer
 returns-in-Trial-clause-answer g c =
     serves_trial (map string_bytes c.args.words.now) _ c.in-Trial.children _ c.try_by_guide.result c.args.command c.in-Trial.is c.try_by_guide.ensures
+
+pub returns-in-Apart-clause-answer : goal.returns-in-Apart-clause-answer
+returns-in-Apart-clause-answer g c =
+    serves_apart (map string_bytes c.args.words.now) _ _ _ c.compare_words-in-Apart.result c.args.command c.in-Apart.is c.compare_words-in-Apart.ensures.answer

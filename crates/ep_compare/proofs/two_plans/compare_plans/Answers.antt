@@ -3,14 +3,14 @@ use Rattle.std.proofs.Common.{inl, inr}
 use Rattle.std.proofs.lemmas.Result.{err_from_is_err_and}
 use Rattle.ep_compare.specs.Comparing.{TwoPlans}
 use Rattle.ep_reading.proofs.CallerLemmas.{behind_task, stops_at_task}
-use Rattle.ep_compare.proofs.same.compare_plans.Goals as goal
+use Rattle.ep_compare.proofs.two_plans.compare_plans.Goals as goal
 
 pub returns-in_err-task-clause-answer : goal.returns-in_err-task-clause-answer
 returns-in_err-task-clause-answer g c =
     let p = err_from_is_err_and c.from_residual.result c.from_residual.ensures.1 in
-    rw (p.1, p.2) (stops_at_task _ _ c.args.file.now (λ files. TwoPlans files c.args.one.now c.args.two.now) _ _ (λ s name n. inl n) c.in_err-task.ensures.task)
+    rw (p.1, p.2) (stops_at_task _ _ c.args.file.now (λ files. TwoPlans files c.args.comparison c.args.one.now c.args.two.now) _ _ (λ s name n. inl n) c.in_err-task.ensures.task)
 
 pub returns-clause-answer : goal.returns-clause-answer
 returns-clause-answer g c =
-    behind_task _ _ _ c.args.file.now c.in_ok-task.task (λ files. TwoPlans files c.args.one.now c.args.two.now) _ _ c.compare_both.result
+    behind_task _ _ _ c.args.file.now c.in_ok-task.task (λ files. TwoPlans files c.args.comparison c.args.one.now c.args.two.now) _ _ c.compare_both.result
     c.in_ok-task.ensures.task c.in_ok-task.ensures.goes_on (λ s name n. inr n) c.compare_both.ensures.answer

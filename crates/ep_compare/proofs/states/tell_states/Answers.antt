@@ -33,6 +33,6 @@ returns c =
     let C = c.in_ok-one.one in
     let D = c.in_ok-two.two in
     let told = subst (λ X. ToldContractions t X D (answers c.in_ok-answer.answer)) c.state.ensures.value
-      (subst (λ Y. ToldContractions t c.state.result.now Y (answers c.in_ok-answer.answer)) c.state-2.ensures.value c.in_ok-answer.ensures) in
+    (subst (λ Y. ToldContractions t c.state.result.now Y (answers c.in_ok-answer.answer)) c.state-2.ensures.value c.in_ok-answer.ensures) in
     Contracted-behind First S C (λ C. Contracted Second R (ToldStates t S R C)) _ c.in_ok-one.ensures
     (Contracted-behind Second R D (ToldStates t S R C) _ c.in_ok-two.ensures (told_of_states t S R C D _ c.in_ok-one.ensures.0 c.in_ok-two.ensures.0 told))

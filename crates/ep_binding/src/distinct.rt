@@ -20,14 +20,14 @@ pub fn distinct_bindings(
     let mut all = List::new(alloc);
     all.push(List::new(alloc))?;
     for at in (0..params.len()).rev() {
-        all = extended(alloc, params[at].as_slice(), all.as_slice())?;
+        all = extend_apart(alloc, params[at].as_slice(), all.as_slice())?;
     }
     Ok(all)
 }
 
 // Each object before each binding that lacks it.
 #[tactic(auto, using(crate::proofs::DistinctLemmas::distinct_steps))]
-fn extended(
+fn extend_apart(
     alloc: Global,
     objects: &[u32],
     rests: &[List<u32>],

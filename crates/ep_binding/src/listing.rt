@@ -27,14 +27,14 @@ pub fn bindings(alloc: Global, params: &[List<u32>]) -> Result<List<List<u32>>, 
     }
     all.push(List::new(alloc))?;
     for at in (0..params.len()).rev() {
-        all = extended(alloc, params[at].as_slice(), all.as_slice())?;
+        all = extend_bindings(alloc, params[at].as_slice(), all.as_slice())?;
     }
     Ok(all)
 }
 
 // Each object before each binding.
 #[tactic(auto, using(crate::proofs::ListingLemmas::listing_steps))]
-fn extended(
+fn extend_bindings(
     alloc: Global,
     objects: &[u32],
     rests: &[List<u32>],

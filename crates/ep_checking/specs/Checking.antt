@@ -5,7 +5,7 @@ use Rattle.ep_types.specs.Tasks.{declarations}
 use Rattle.ep_ground.specs.Task.{GroundTask}
 use Rattle.ep_answer.specs.declared.answer.Answer.TheVariants.{Checked}
 use Rattle.ep_answer.specs.declared.answer.Counts.{Counts}
-use Rattle.ep_reading.specs.Served.{Outcome, answers}
+use Rattle.ep_reading.specs.Served.{Ending, answers}
 
 abbrev pub counts_of : GroundTask → Counts
 counts_of g = record {
@@ -17,5 +17,5 @@ counts_of g = record {
 }
 
 -- the numbers of the ground task, and the layout of the task
-abbrev pub Checks : GroundTask → Outcome → Type 0
+abbrev pub Checks : GroundTask → Ending → Type 0
 Checks g outcome = outcome ≡ answers (Checked (counts_of g) (layout_of g.tree))

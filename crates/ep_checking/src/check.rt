@@ -1,9 +1,10 @@
 // `check FILE`.
-ghost use Rattle.std.specs.Prelude.{◌≡◌, IfOk};
+ghost use Rattle.std.specs.Prelude.{◌≡◌, [], ◌∷◌, IfOk};
 ghost use Rattle.ep_tree.specs.Formed.{IsFormedTask};
 ghost use Rattle.ep_tree.specs.Marks.{IsShallow};
 ghost use Rattle.ep_tree.specs.Spelling as spell;
 ghost use Rattle.ep_checking.specs.Checking.{Checks, counts_of};
+ghost use Rattle.ep_reading.specs.Fetches.{Fetches};
 ghost use Rattle.ep_reading.specs.Run.{GoesOn};
 ghost use Rattle.ep_reading.specs.Served.{TaskFile, answers};
 ghost use Rattle.ep_reading.specs.Steps.{OnlyFile, Serves};
@@ -42,6 +43,7 @@ fn report_task(alloc: Global, task: &Task) -> Result<Answer, OutOfMemory>
 /// The numbers of a task, and its layout.
 pub fn check_task<L: Library>(alloc: Global, files: &mut L, file: &str) -> Result<Answer, Stop>
     ensures goes_on { GoesOn (L.library files.old) (L.library files.new) }
+    ensures fetches { Fetches (file.now ∷ []) (L.library files.old) (L.library files.new) }
     ensures answer { Serves (λ held. TaskFile held file.now Checks) (OnlyFile OfTask file.now) ⊥ (L.library files.old) (L.library files.new) result }
 {
     let task = read_task_file(alloc, files, file)?;

@@ -17,8 +17,8 @@ use Rattle.ep_answer.specs.declared.cause.Subject.{Subject}
 use Rattle.ep_answer.specs.declared.cause.Subject.TheVariants.{Task}
 use Rattle.ep_checking.specs.Checking.{Checks}
 use Rattle.ep_planning.specs.Trials.{Tries}
-use Rattle.ep_reading.specs.Served.{Outcome, TaskFile, TaskRead}
-use Rattle.ep_reading.specs.Steps.{OnlyFile, Serves, Tells}
+use Rattle.ep_reading.specs.Served.{Ending, TaskFile, TaskRead}
+use Rattle.ep_reading.specs.Steps.{OnlyFile, Serves, EndsBy}
 use Rattle.ep_reading.proofs.CallerLemmas.{Serves-more}
 use Rattle.ep_planning.proofs.CallerLemmas.{serves_told_guide, trial_is_behind}
 use Rattle.ep_bounds.specs.declared.bounds.Bounds.{Bounds}
@@ -32,7 +32,7 @@ one_names : (words : List (List ℕ)) (file plan : List ℕ) → file ≡ word_a
 one_names words file plan e p s name (inl o) = subst (λ t. NamesOne words t name) (sym o.0) (o.1 ∙ e)
 one_names words file plan e p s name (inr o) = subst (λ t. NamesOne words t name) (sym o.0) (o.1.0 ∙ p, λ k. o.1.1 (p ∙ k))
 
-pub serves_one : (words : List (List ℕ)) (file plan : List ℕ) (ask : GroundTask → List ActionId → Outcome → Type 0) (old new : LibraryState) (r : Result Answer Stop)
+pub serves_one : (words : List (List ℕ)) (file plan : List ℕ) (ask : GroundTask → List ActionId → Ending → Type 0) (old new : LibraryState) (r : Result Answer Stop)
     → file ≡ word_at words 1 → plan ≡ word_at words 2
     → Serves (λ files. PlanWork files file plan ask) (TaskAndPlan file plan) ⊥ old new r
     → Serves (λ files. PlanWork files (word_at words 1) (word_at words 2) ask) (NamesOne words) ⊥ old new r
@@ -118,7 +118,7 @@ serves_plan words guides b guide mode file old new r k is e h =
     (λ files o w. subst (λ f. Guided guides guide (TaskFile files f (Plans b mode)) o) e w) (λ s name p. subst (λ t. Names words (Plan b guide mode) t name) (sym p.0) (p.1 ∙ e)) h)
 
 pub serves_trial : (words : List (List ℕ)) (guides n : ℕ) (library : LibraryState) (r : Result Answer Stop) (k : Command) → k ≡ command.Trial n
-    → Tells (Guided guides 0 (TaskRead (trial_text n) (Tries n))) r → ServesCommand words guides library library r k
+    → EndsBy (Guided guides 0 (TaskRead (trial_text n) (Tries n))) r → ServesCommand words guides library library r k
 serves_trial words guides n library r k is h =
     subst (ServesCommand words guides library library r) (sym is)
     (serves_told_guide guides (TaskRead (trial_text n) (Tries n)) (Names words (command.Trial n)) library r (trial_is_behind n (trial_text n)) h)

@@ -4,7 +4,7 @@ use Rattle.ep_bounds.specs.Bounds.{IsBounds}
 use Rattle.ep_bounds.specs.declared.bounds.Measure.TheVariants.{Length}
 use Rattle.ep_bounds.specs.declared.bounds.Mode.{Mode}
 use Rattle.ep_bounds.specs.declared.bounds.TheConstants.{MOST_BOUND, MOST_STATES, MOST_WORLDS}
-use Rattle.ep_words.specs.Options.{AreOptions, no_options, and_option, IsWithin, plan_of}
+use Rattle.ep_words.specs.Options.{AreOptions, no_options, and_option, IsInRange, plan_of}
 use Rattle.ep_words.specs.Options as opt
 use Rattle.ep_words.specs.Words.{IsCommand}
 use Rattle.ep_bounds.specs.declared.bounds.Bounds.{Bounds}
@@ -20,7 +20,7 @@ record AreWithin (os : Options) : Type 0 where
   states : IfSome os.states (λ n. (1 ≤ n) × (n ≤ MOST_STATES))
   worlds : IfSome os.worlds (λ n. (1 ≤ n) × (n ≤ MOST_WORLDS))
 
-one_within : (os : Options) (o : PlanOption) → IsWithin o → AreWithin os → AreWithin (and_option os o)
+one_within : (os : Options) (o : PlanOption) → IsInRange o → AreWithin os → AreWithin (and_option os o)
 one_within os (Depth n) w h = record { bound = w; states = h.states; worlds = h.worlds }
 one_within os (Cost n) w h = record { bound = w; states = h.states; worlds = h.worlds }
 one_within os (States n) w h = record { bound = h.bound; states = w; worlds = h.worlds }

@@ -19,9 +19,23 @@ fn cut_short(rt: &impl Abort, alloc: Global, kept: u32, text: &str) -> Result<()
 
 #[test]
 fn a_failing_put_leaves_a_prefix(rt: HostRuntime) -> Result<(), Fail> {
-    for (kept, text) in [(0, ""), (3, "non"), (99, "none to 0\n")] {
-        cut_short(&rt, rt.alloc(), kept, text)?;
+    let prefixes = [
+        "",
+        "n",
+        "no",
+        "non",
+        "none",
+        "none ",
+        "none t",
+        "none to",
+        "none to ",
+        "none to 0",
+        "none to 0\n",
+    ];
+    for kept in 0..11 {
+        cut_short(&rt, rt.alloc(), kept, prefixes[kept as usize])?;
     }
+    cut_short(&rt, rt.alloc(), 99, "none to 0\n")?;
     Ok(())
 }
 
@@ -30,6 +44,21 @@ fn a_failing_fetch_is_a_read_fault(rt: HostRuntime) -> Result<(), Fail> {
     let mut files = library(rt.alloc(), COIN0, &[0])?;
     let text = "fault: task cannot be read\n";
     tells(&rt, rt.alloc(), &mut files, &["check", "t"], 4, text)
+}
+
+// Neither the file nor the fault can be told.
+#[test]
+fn both_ends_fail(rt: HostRuntime) -> Result<(), Fail> {
+    let mut files = library(rt.alloc(), COIN0, &[0])?;
+    let mut out = sink(rt.alloc(), &[SinkFault { call: 0, kept: 0 }])?;
+    let status = ran(
+        rt.alloc(),
+        &["plan", "t", "--depth", "0"],
+        &mut files,
+        &mut out,
+    )?;
+    is_told(&rt, &out, status, 5, "");
+    Ok(())
 }
 
 fn fails_at(
@@ -46,7 +75,7 @@ fn fails_at(
 // The fetch with this number fails.
 #[test]
 fn faults_name_their_file(rt: HostRuntime) -> Result<(), Fail> {
-    let rows: [(&[&str], u32, &str); 6] = [
+    let rows: [(&[&str], u32, &str); 7] = [
         (&["validate", "t", "a"], 0, "fault: task cannot be read\n"),
         (&["validate", "t", "a"], 1, "fault: plan cannot be read\n"),
         (
@@ -54,6 +83,7 @@ fn faults_name_their_file(rt: HostRuntime) -> Result<(), Fail> {
             1,
             "fault: plan cannot be read\n",
         ),
+        (&["same", "t", "a", "b"], 0, "fault: task cannot be read\n"),
         (
             &["same", "t", "a", "b"],
             1,

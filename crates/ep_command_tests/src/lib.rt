@@ -6,6 +6,8 @@ mod faults;
 #[cfg(test)]
 mod frames;
 #[cfg(test)]
+mod hostile;
+#[cfg(test)]
 mod memory;
 #[cfg(test)]
 mod planning;
@@ -15,3 +17,5 @@ mod plans;
 mod tasks;
 #[cfg(test)]
 mod words;
+#[cfg(test)]
+mod worn;

@@ -230,6 +230,10 @@ fn trials_are_told(rt: HostRuntime) -> Result<(), Fail> {
             "3",
             "trial 3\nworlds 8\ncontracted 8\nshortest 3\nvalidator yes\n",
         ),
+        (
+            "8",
+            "trial 8\nworlds 256\ncontracted 256\nshortest 8\nvalidator yes\n",
+        ),
     ];
     for (children, text) in rows {
         tells_of_task(&rt, rt.alloc(), "", &["trial", children], 0, text)?;

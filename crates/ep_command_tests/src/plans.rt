@@ -113,36 +113,46 @@ fn plans_are_validated(rt: HostRuntime) -> Result<(), Fail> {
     Ok(())
 }
 
-// A plan that waits so often.
-fn waits(alloc: Global, count: u32) -> Result<String, Fail> {
-    let calls = "wait\n".repeat(alloc, count as usize)?;
+// A plan of so many calls, each on a line.
+fn repeated(alloc: Global, call: &str, count: u32) -> Result<String, Fail> {
+    let calls = call.repeat(alloc, count as usize)?;
     Ok(format!(in alloc; "plan 1\ntask wait_task\nactions {count}\n{calls}end\n")?)
 }
 
-fn runs_to(
-    rt: &impl Abort,
-    alloc: Global,
-    verb: &str,
-    count: u32,
-    code: u8,
-    text: &str,
-) -> Result<(), Fail> {
-    let plan = waits(alloc, count)?;
+// The verb, the call and how often it is made, and what is answered.
+type LongRow = (&'static str, &'static str, u32, u8, &'static str);
+
+fn runs_to(rt: &impl Abort, alloc: Global, row: &LongRow) -> Result<(), Fail> {
+    let (verb, call, count, code, text) = *row;
+    let plan = repeated(alloc, call, count)?;
     let files = (WAIT, [plan.as_str(), ""]);
     tells_of_plans(rt, alloc, files, &[verb, "t", "a"], code, text)
 }
 
-// Each call doubles the worlds.
+// Each call doubles the worlds, and `blur` makes four times as many links.
 #[test]
 fn long_runs_are_spent(rt: HostRuntime) -> Result<(), Fail> {
-    let rows = [
-        ("validate", 16, 1, "no: goal\n"),
-        ("validate", 17, 7, "spent: step 17, worlds 131072\n"),
-        ("contract", 3, 0, WAITED),
-        ("state", 13, 7, "spent: step 13, worlds 8192\n"),
+    let rows: [LongRow; 5] = [
+        ("validate", "wait\n", 16, 1, "no: goal\n"),
+        (
+            "validate",
+            "wait\n",
+            17,
+            7,
+            "spent: step 17, worlds 131072\n",
+        ),
+        (
+            "validate",
+            "blur\n",
+            13,
+            7,
+            "spent: step 13, links 67108864\n",
+        ),
+        ("contract", "wait\n", 3, 0, WAITED),
+        ("state", "wait\n", 13, 7, "spent: step 13, worlds 8192\n"),
     ];
-    for (verb, count, code, text) in rows {
-        runs_to(&rt, rt.alloc(), verb, count, code, text)?;
+    for row in rows {
+        runs_to(&rt, rt.alloc(), &row)?;
     }
     Ok(())
 }

@@ -21,7 +21,7 @@ use Rattle.ep_apart.specs.Lines.{formula_of, last_line}
 use Rattle.ep_apart.specs.Telling.{TellsApart, state_across, state_at}
 use Rattle.ep_compare.specs.Comparing.{Compared, Compares, Contracted, IsComparable, IsSmallContraction, TellsBoth, TellsStates, ToldContractions, ToldStates}
 use Rattle.ep_compare.specs.declared.comparison.Comparison.{Comparison}
-use Rattle.ep_reading.specs.Served.{Answers, answers, Outcome}
+use Rattle.ep_reading.specs.Served.{Answers, answers, Ending}
 use Rattle.ep_reading.proofs.CallerLemmas.{IsBehind, other_is_behind, answers_are, Serves-more, Ran-behind, Ran-weaker, ran_is_behind, stops_map, tells_is_served}
 use Rattle.ep_theory.specs.Bisimulation as theory
 use Rattle.ep_io.specs.Library.{FileMap, LibraryState}
@@ -30,7 +30,7 @@ use Rattle.ep_plan.specs.declared.runs.Outcome.TheVariants as run
 use Rattle.ep_answer.specs.declared.answer.Stop.{Stop}
 use Rattle.ep_answer.specs.declared.run_stop.Whose.TheVariants.{First, Second}
 use Rattle.ep_reading.specs.PlanFile.{Ran, run_size}
-use Rattle.ep_reading.specs.Steps.{IsLeft, Serves, StopsBy, Tells, nothing_behind}
+use Rattle.ep_reading.specs.Steps.{IsLeft, Serves, StopsBy, EndsBy, nothing_behind}
 
 -- ---- what no fetch tells
 
@@ -39,7 +39,7 @@ unfolding Compares
 compares_is_behind S R status text (inl h) = answers_are status done.Ok text _ h.1 (other_is_behind done.Ok _ tt (λ e. cc) (λ e. cc) refl)
 compares_is_behind S R status text (inr h) = answers_are status done.No text _ h.1 (other_is_behind done.No _ tt (λ e. cc) (λ e. cc) refl)
 
-contracted_is_behind : (whose : Whose) (S : Kripke) (P : Kripke → Outcome → Type 0) (status : Status) (text : List ℕ)
+contracted_is_behind : (whose : Whose) (S : Kripke) (P : Kripke → Ending → Type 0) (status : Status) (text : List ℕ)
     → ((C : Kripke) → P C (Answers status text) → IsBehind status text) → Contracted whose S P (Answers status text) → IsBehind status text
 unfolding Contracted
 contracted_is_behind whose S P status text f (C, is, inl wide) = answers_are status done.Undecided text _ wide.1 (other_is_behind done.Undecided _ tt (λ e. cc) (λ e. cc) refl)
@@ -59,7 +59,7 @@ pub second_is_behind : (comparison : Comparison) (g : GroundTask) (S : Kripke) (
 second_is_behind comparison g S plan status text h = ran_is_behind Second g plan (Compared comparison g S) status text (λ R e. compared_is_behind comparison g S R status text e) h
 
 -- what follows from what the work may tell
-pub tells_map : (work more : Outcome → Type 0) (r : Result Answer Stop) → ((o : Outcome) → work o → more o) → Tells work r → Tells more r
+pub tells_map : (work more : Ending → Type 0) (r : Result Answer Stop) → ((o : Ending) → work o → more o) → EndsBy work r → EndsBy more r
 tells_map work more (Ok answer) f h = f (answers answer) h
 tells_map work more (Err stop) f h = stops_map work more stop f h
 
@@ -79,12 +79,12 @@ pub wide_stops : (whose : Whose) (S C : Kripke) (n : ℕ) → Contracts S C → 
 unfolding Contracted
 wide_stops whose S C n is e wide = (C, is, inl (subst (λ m. MOST_TOLD < m) e wide, ap (λ m. answers (WideContraction whose m)) e))
 
-pub Contracted-weaker : (whose : Whose) (S : Kripke) (P : Kripke → Outcome → Type 0) (o : Outcome) → Contracted whose S nothing_behind o → Contracted whose S P o
+pub Contracted-weaker : (whose : Whose) (S : Kripke) (P : Kripke → Ending → Type 0) (o : Ending) → Contracted whose S nothing_behind o → Contracted whose S P o
 unfolding Contracted
 Contracted-weaker whose S P o (C, is, inl wide) = (C, is, inl wide)
 Contracted-weaker whose S P o (C, is, inr h) = absurd h.1
 
-pub Contracted-behind : (whose : Whose) (S C : Kripke) (P : Kripke → Outcome → Type 0) (o : Outcome) → IsSmallContraction S C → P C o → Contracted whose S P o
+pub Contracted-behind : (whose : Whose) (S C : Kripke) (P : Kripke → Ending → Type 0) (o : Ending) → IsSmallContraction S C → P C o → Contracted whose S P o
 unfolding Contracted
 Contracted-behind whose S C P o small h = (C, small.0, inr (small.1, h))
 
@@ -115,7 +115,7 @@ not_bisimilar S R f Side.First here nowhere b = let v = (same_at_some S R b f).0
 not_bisimilar S R f Side.Second here nowhere b = let v = (same_at_some S R b f).1 here in nowhere v.0 v.1 v.2
 
 -- what is told of the contractions holds of the states
-pub told_of_states : (g : GroundTask) (S R C D : Kripke) (o : Outcome) → Contracts S C → Contracts R D → ToldContractions g C D o → ToldStates g S R C D o
+pub told_of_states : (g : GroundTask) (S R C D : Kripke) (o : Ending) → Contracts S C → Contracts R D → ToldContractions g C D o → ToldStates g S R C D o
 told_of_states g S R C D o c d (inl h) = inl (bisimilar_trans c.bisimilar (bisimilar_trans h.0 (bisimilar_sym d.bisimilar)), h.1)
 told_of_states g S R C D o c d (inr h) =
     let a = h.0 in
@@ -130,7 +130,7 @@ told_of_states g S R C D o c d (inr h) =
 pub comparable : (g : GroundTask) (plan : List ActionId) (S : Kripke) → IsLeft g plan S → IsComparable g S
 comparable g plan S left = record { worlds = omega (arith, left.worlds); agents = left.named_agents; atoms = left.named_atoms }
 
-pub behind_run : (old new : LibraryState) (whose : Whose) (g : GroundTask) (plan : List ActionId) (S : Kripke) (P : FileMap → Kripke → Outcome → Type 0) (names : Subject → List ℕ → Type 0) (r : Result Answer Stop)
+pub behind_run : (old new : LibraryState) (whose : Whose) (g : GroundTask) (plan : List ActionId) (S : Kripke) (P : FileMap → Kripke → Ending → Type 0) (names : Subject → List ℕ → Type 0) (r : Result Answer Stop)
     → RunUnder g.problem plan run_size (run.After S)
     → Serves (λ files. P files S) names ⊥ old new r → Serves (λ files. Ran whose g plan (P files)) names ⊥ old new r
 behind_run old new whose g plan S P names r left h =
@@ -138,7 +138,7 @@ behind_run old new whose g plan S P names r left h =
     (λ files o w. Ran-behind whose g plan S (P files) o left w) (λ s name n. n) h
 
 -- where the run stops, whatever may stand behind it
-pub first_stops : (names : Subject → List ℕ → Type 0) (old new : LibraryState) (g : GroundTask) (plan : List ActionId) (P : FileMap → Kripke → Outcome → Type 0) (stop : Stop)
+pub first_stops : (names : Subject → List ℕ → Type 0) (old new : LibraryState) (g : GroundTask) (plan : List ActionId) (P : FileMap → Kripke → Ending → Type 0) (stop : Stop)
     → StopsBy (Ran First g plan nothing_behind) stop → Serves (λ files. Ran First g plan (P files)) names ⊥ old new (Err stop)
 first_stops names old new g plan P stop h =
     Serves-more (λ files. Ran First g plan nothing_behind) (λ files. Ran First g plan (P files)) names names ⊥ old new (Err stop)

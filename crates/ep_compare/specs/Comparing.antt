@@ -14,7 +14,7 @@ use Rattle.ep_answer.specs.declared.answer.Answer.TheVariants.{Bisimilar, Differ
 use Rattle.ep_answer.specs.declared.run_stop.Whose.{Whose}
 use Rattle.ep_answer.specs.declared.run_stop.Whose.TheVariants.{First, Second}
 use Rattle.ep_reading.specs.PlanFile.{Ran, PlanFile}
-use Rattle.ep_reading.specs.Served.{Outcome, answers, TaskFile}
+use Rattle.ep_reading.specs.Served.{Ending, answers, TaskFile}
 use Rattle.ep_io.specs.Library.{FileMap}
 use Rattle.ep_answer.specs.declared.cause.Subject.{Subject}
 use Rattle.ep_answer.specs.declared.cause.Subject.TheVariants.{Task, FirstPlan, SecondPlan}
@@ -31,7 +31,7 @@ pub record IsComparable (g : GroundTask) (S : Kripke) : Type 0 where
 -- ---- same
 
 -- whether the states are bisimilar
-unfoldable pub Compares : Kripke → Kripke → Outcome → Type 0
+unfoldable pub Compares : Kripke → Kripke → Ending → Type 0
 Compares S R outcome =
     (theory.Bisimilar S R × (outcome ≡ answers Bisimilar)) ⊎ ((theory.Bisimilar S R → ⊥) × (outcome ≡ answers Different))
 
@@ -41,19 +41,19 @@ abbrev pub IsSmallContraction : Kripke → Kripke → Type 0
 IsSmallContraction S C = Contracts S C × (C.worlds ≤ MOST_TOLD)
 
 -- the contraction of what a plan leaves, if it has few enough worlds
-unfoldable pub Contracted : Whose → Kripke → (Kripke → Outcome → Type 0) → Outcome → Type 0
+unfoldable pub Contracted : Whose → Kripke → (Kripke → Ending → Type 0) → Ending → Type 0
 Contracted whose S next outcome =
     (C : Kripke) × Contracts S C ×
     (((MOST_TOLD < C.worlds) × (outcome ≡ answers (WideContraction whose C.worlds))) ⊎ ((C.worlds ≤ MOST_TOLD) × next C outcome))
 
 -- two states are told apart by the text of a formula, or they are bisimilar
-abbrev pub ToldContractions : GroundTask → Kripke → Kripke → Outcome → Type 0
+abbrev pub ToldContractions : GroundTask → Kripke → Kripke → Ending → Type 0
 ToldContractions g C D outcome =
     (theory.Bisimilar C D × (outcome ≡ answers Bisimilar)) ⊎ ((a : Apart) × TellsApart C D a × (outcome ≡ answers (ToldApart (apart_text g a))))
 
 -- a formula tells the contractions apart, and in the same way the states: it is true at a designated world of the one on
 -- its side, and at none of the other
-pub record TellsBoth (g : GroundTask) (S R C D : Kripke) (outcome : Outcome) : Type 0 where
+pub record TellsBoth (g : GroundTask) (S R C D : Kripke) (outcome : Ending) : Type 0 where
   pub apart : Apart
   pub contractions : TellsApart C D apart
   pub different : theory.Bisimilar S R → ⊥
@@ -62,30 +62,30 @@ pub record TellsBoth (g : GroundTask) (S R C D : Kripke) (outcome : Outcome) : T
   pub told : outcome ≡ answers (ToldApart (apart_text g apart))
 
 -- the states are bisimilar, or told apart
-abbrev pub ToldStates : GroundTask → Kripke → Kripke → Kripke → Kripke → Outcome → Type 0
+abbrev pub ToldStates : GroundTask → Kripke → Kripke → Kripke → Kripke → Ending → Type 0
 ToldStates g S R C D outcome = (theory.Bisimilar S R × (outcome ≡ answers Bisimilar)) ⊎ TellsBoth g S R C D outcome
 
 -- the first contraction is tested before the second one
-abbrev pub TellsStates : GroundTask → Kripke → Kripke → Outcome → Type 0
+abbrev pub TellsStates : GroundTask → Kripke → Kripke → Ending → Type 0
 TellsStates g S R = Contracted First S (λ C. Contracted Second R (ToldStates g S R C))
 
 -- ---- both
 
 -- what is asked of the states
-abbrev pub Compared : Comparison → GroundTask → Kripke → Kripke → Outcome → Type 0
+abbrev pub Compared : Comparison → GroundTask → Kripke → Kripke → Ending → Type 0
 Compared Comparison.Same g = Compares
 Compared Comparison.Apart g = TellsStates g
 
 -- ---- files
 
 -- two plans for a task; the first one is run before the second one is read
-abbrev pub TwoPlans : FileMap → Comparison → List ℕ → List ℕ → GroundTask → Outcome → Type 0
+abbrev pub TwoPlans : FileMap → Comparison → List ℕ → List ℕ → GroundTask → Ending → Type 0
 TwoPlans files comparison one two g =
     PlanFile files FirstPlan one g (λ p. Ran First g p (λ S.
     PlanFile files SecondPlan two g (λ q. Ran Second g q (Compared comparison g S))))
 
 -- the task of a file, and two plans for it
-abbrev pub CompareWork : FileMap → Comparison → List ℕ → List ℕ → List ℕ → Outcome → Type 0
+abbrev pub CompareWork : FileMap → Comparison → List ℕ → List ℕ → List ℕ → Ending → Type 0
 CompareWork files comparison file one two = TaskFile files file (TwoPlans files comparison one two)
 
 abbrev pub BothPlans : List ℕ → List ℕ → Subject → List ℕ → Type 0

@@ -4,7 +4,7 @@ ghost use Rattle.ep_apart.specs.declared.limits.TheConstants.{MOST_TOLD};
 ghost use Rattle.ep_canon.specs.declared.limits.TheConstants.{MOST_CONTRACTED_WORLDS};
 ghost use Rattle.ep_compare.specs.Comparing.{Compared, Compares, Contracted, IsComparable, IsSmallContraction, TellsStates, ToldContractions};
 ghost use Rattle.ep_reading.specs.Served.{answers};
-ghost use Rattle.ep_reading.specs.Steps.{StopsBy, Tells, nothing_behind};
+ghost use Rattle.ep_reading.specs.Steps.{StopsBy, EndsBy, nothing_behind};
 
 use crate::apart_text::print_apart;
 use crate::comparison::Comparison;
@@ -26,7 +26,7 @@ pub fn compare_states(
 ) -> Result<Answer, Stop>
     requires first { IsComparable task.now first.now }
     requires second { IsComparable task.now second.now }
-    ensures { Tells (Compared comparison task.now first.now second.now) result }
+    ensures { EndsBy (Compared comparison task.now first.now second.now) result }
 {
     match comparison {
         Comparison::Same => Ok(ask_same(alloc, first, second)?),
@@ -51,7 +51,7 @@ fn ask_same(alloc: Global, first: &State, second: &State) -> Result<Answer, OutO
 fn tell_states(alloc: Global, task: &Task, first: &State, second: &State) -> Result<Answer, Stop>
     requires first { IsComparable task.now first.now }
     requires second { IsComparable task.now second.now }
-    ensures { Tells (TellsStates task.now first.now second.now) result }
+    ensures { EndsBy (TellsStates task.now first.now second.now) result }
 {
     let one = contract_small(alloc, Whose::First, first)?;
     let two = contract_small(alloc, Whose::Second, second)?;

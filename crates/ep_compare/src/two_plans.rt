@@ -1,5 +1,7 @@
 // A task and two plans: both are read and run, and what they leave is compared.
+ghost use Rattle.std.specs.Prelude.{◌∷◌, ◌++◌};
 ghost use Rattle.ep_compare.specs.Comparing.{BothPlans, Compared, CompareWork, IsComparable, TaskAndPlans, TwoPlans};
+ghost use Rattle.ep_reading.specs.Fetches.{Fetches, plan_files};
 ghost use Rattle.ep_reading.specs.PlanFile.{PlanFile, Ran};
 ghost use Rattle.ep_reading.specs.Run.{GoesOn};
 ghost use Rattle.ep_reading.specs.Steps.{OnlyPlan, Serves};
@@ -27,6 +29,7 @@ fn compare_with_second<L: Library>(
 ) -> Result<Answer, Stop>
     requires { IsComparable task.now first.now }
     ensures goes_on { GoesOn (L.library files.old) (L.library files.new) }
+    ensures fetches { Fetches (plan_files word.now) (L.library files.old) (L.library files.new) }
     ensures answer { Serves (λ held. PlanFile held OfSecond word.now task.now (λ q. Ran Second task.now q (Compared comparison task.now first.now))) (OnlyPlan OfSecond word.now) ⊥ (L.library files.old) (L.library files.new) result }
 {
     let plan = read_plan_file(alloc, files, Subject::SecondPlan, task, word)?;
@@ -45,6 +48,7 @@ fn compare_both<L: Library>(
     comparison: Comparison,
 ) -> Result<Answer, Stop>
     ensures goes_on { GoesOn (L.library files.old) (L.library files.new) }
+    ensures fetches { Fetches (plan_files one.now ++ plan_files two.now) (L.library files.old) (L.library files.new) }
     ensures answer { Serves (λ held. TwoPlans held comparison one.now two.now task.now) (BothPlans one.now two.now) ⊥ (L.library files.old) (L.library files.new) result }
 {
     let plan = read_plan_file(alloc, files, Subject::FirstPlan, task, one)?;
@@ -62,6 +66,7 @@ pub fn compare_plans<L: Library>(
     comparison: Comparison,
 ) -> Result<Answer, Stop>
     ensures goes_on { GoesOn (L.library files.old) (L.library files.new) }
+    ensures fetches { Fetches (file.now ∷ (plan_files one.now ++ plan_files two.now)) (L.library files.old) (L.library files.new) }
     ensures answer { Serves (λ held. CompareWork held comparison file.now one.now two.now) (TaskAndPlans file.now one.now two.now) ⊥ (L.library files.old) (L.library files.new) result }
 {
     let task = read_task_file(alloc, files, file)?;

@@ -1,6 +1,8 @@
-//! Tests of words, libraries, sinks and the text of a trial.
+//! Tests of words, libraries, sinks, devices and the text of a trial.
 #![tactic(auto)]
 
+#[cfg(test)]
+mod devices;
 #[cfg(test)]
 mod libraries;
 #[cfg(test)]

@@ -1,7 +1,7 @@
 //! Libraries of named files, in memory and on disk.
 
 use ep_base::{List, Text};
-use ep_io::{DiskLibrary, FetchError, Library, MemoryLibrary, Tally, take_all};
+use ep_io::{ClearLibrary, DiskLibrary, FetchError, Library, MemoryLibrary, Tally, take_all};
 use std::alloc::{AllocError, Global};
 use std::fs;
 use std::process::Abort;
@@ -109,5 +109,19 @@ fn a_reader_is_read_to_its_end_or_past_the_limit(rt: HostRuntime) -> Result<(), 
     for row in rows {
         check_reader(&rt, rt.alloc(), &row)?;
     }
+    Ok(())
+}
+
+#[test]
+fn a_clear_library_tells_its_files(rt: HostRuntime) -> Result<(), Fail> {
+    let name_of_coin = Text::from_vec(b"coin".to_vec(rt.alloc())?);
+    let bytes = List::from_vec(b"abc".to_vec(rt.alloc())?);
+    let files = List::from_vec(vec![in rt.alloc(); (name_of_coin, bytes)]?);
+    let mut files = ClearLibrary::new(rt.alloc(), files);
+    let mut into = b"x".to_vec(rt.alloc())?;
+    assert_eq!(rt; name(files.fetch("coin", 3, &mut into)), "ok");
+    assert_eq!(rt; name(files.fetch("coin", 2, &mut into)), "too long");
+    assert_eq!(rt; name(files.fetch("coins", 3, &mut into)), "missing");
+    assert_eq!(rt; into.as_slice(), b"xabc".as_slice());
     Ok(())
 }

@@ -1,7 +1,7 @@
 //! Sinks of bytes, in memory and over a writer.
 
 use ep_base::List;
-use ep_io::{MemorySink, Sink, SinkFault, StdSink};
+use ep_io::{ClearSink, MemorySink, Sink, SinkFault, StdSink};
 use std::process::Abort;
 use std::test::Fail;
 
@@ -39,4 +39,12 @@ fn a_sink_over_a_writer_writes_to_the_end(rt: HostRuntime) {
     assert!(rt; out.put(b"abc").is_ok());
     assert!(rt; out.put(b"def").is_err());
     assert_eq!(rt; room, *b"abcde");
+}
+
+#[test]
+fn a_clear_sink_counts_its_bytes(rt: HostRuntime) {
+    let mut out = ClearSink::new();
+    assert!(rt; out.put(b"abc").is_ok());
+    assert!(rt; out.put(b"de").is_ok());
+    assert_eq!(rt; out.bytes(), 5);
 }

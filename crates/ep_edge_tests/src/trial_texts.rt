@@ -74,7 +74,7 @@ fn layout(rt: &impl Abort, alloc: Global, bytes: &[u8]) -> Result<Text, Fail> {
 
 #[test]
 fn texts_of_trials_are_layouts_of_tasks(rt: HostRuntime) -> Result<(), Fail> {
-    for children in [1, 3, 8] {
+    for children in [1, 2, 3, 4, 5, 6, 7, 8] {
         let text = trial_text(rt.alloc(), children)?;
         let layout = layout(&rt, rt.alloc(), text.as_slice())?;
         assert_eq!(rt; layout.as_slice(), text.as_slice(), "for {children}");

@@ -15,7 +15,7 @@ use ep_types::Typed;
 use ep_universe::universe::Universe;
 use std::alloc::Global;
 
-fn checked_parts(alloc: Global, universe: &Universe) -> Result<Parts, GroundError>
+fn check_and_ground(alloc: Global, universe: &Universe) -> Result<Parts, GroundError>
     ensures actions { IfOk result (λ parts. parts.actions ≡ action_names universe.now.names universe.now.tree.schemas) }
     ensures problem { IfOk result (λ parts. parts.problem ≡ problem_from universe.now.names universe.now.tree) }
     ensures frames { OnOk result (not_s5 universe.now.names universe.now.tree ≡ None) }
@@ -37,7 +37,7 @@ fn ground_universe(alloc: Global, universe: Universe) -> Result<Task, GroundErro
     ensures sound { OnOk result (first_some (behind_names universe.names universe.tree) ≡ None) }
     ensures err { IfErr result (Reports GroundError.OutOfMemory (first_some (behind_names universe.names universe.tree))) }
 {
-    match checked_parts(alloc, &universe) {
+    match check_and_ground(alloc, &universe) {
         Ok(parts) => Ok(Task::from_parts(universe, parts)),
         Err(error) => {
             discard(universe);

@@ -1,4 +1,4 @@
-ghost use Rattle.std.specs.Prelude.{◌≡◌, ℕ};
+ghost use Rattle.std.specs.Prelude.{◌≡◌, ◌≤◌, ℕ};
 ghost use Rattle.ep_base.specs.Counts.{Rose};
 
 /// What a guide is told of a state: its depth, the numbers of worlds and of designated worlds of its contraction, and
@@ -19,7 +19,8 @@ pub trait Guide: Drop {
     ghost asked: { Self → ℕ };
 
     fn score(&mut self, view: &View) -> u64
-        ensures { Rose (asked self.old) (asked self.new) };
+        ensures rose { Rose (asked self.old) (asked self.new) }
+        ensures grows { asked self.old ≤ asked self.new };
 
     /// Tells that a state at this depth reaches the goal.
     fn met(&mut self, depth: u32)

@@ -1,4 +1,4 @@
-ghost use Rattle.std.specs.Prelude.{◌≡◌};
+ghost use Rattle.std.specs.Prelude.{◌≡◌, ◌≤◌};
 ghost use Rattle.ep_base.specs.Counts.{Rose, one_more};
 
 use crate::guide::{Guide, View};
@@ -6,7 +6,8 @@ use std::marker::Model;
 
 // A count stays at its greatest value.
 pub fn raised(count: u64) -> u64
-    ensures { result ≡ one_more count }
+    ensures counted { result ≡ one_more count }
+    ensures grows { count ≤ result }
 {
     count.saturating_add(1)
 }
@@ -40,6 +41,7 @@ impl Guide for ByDepth {
         ensures score { result ≡ view.now.depth }
         ensures asked { self.new ≡ one_more self.old }
         ensures rose { Rose self.old self.new }
+        ensures grows { self.old ≤ self.new }
     {
         self.asked = raised(self.asked);
         u64::from(view.depth)
@@ -79,6 +81,7 @@ impl Guide for ByWorlds {
         ensures score { result ≡ view.now.worlds }
         ensures asked { self.new ≡ one_more self.old }
         ensures rose { Rose self.old self.new }
+        ensures grows { self.old ≤ self.new }
     {
         self.asked = raised(self.asked);
         u64::from(view.worlds)

@@ -1,6 +1,6 @@
 //! Guides with scores that mislead. A search is right whatever a guide scores, and these are for trying that.
 
-ghost use Rattle.std.specs.Prelude.{◌≡◌, ◌-◌, ◌*◌, ◌%◌, ◌^◌};
+ghost use Rattle.std.specs.Prelude.{◌≡◌, ◌≤◌, ◌-◌, ◌*◌, ◌%◌, ◌^◌};
 ghost use Rattle.ep_base.specs.Counts.{Rose, last_count, one_more};
 
 use crate::guide::{Guide, View};
@@ -36,6 +36,7 @@ impl Guide for Contrary {
         ensures score { result ≡ last_count - view.now.depth }
         ensures asked { self.new ≡ one_more self.old }
         ensures rose { Rose self.old self.new }
+        ensures grows { self.old ≤ self.new }
     {
         self.asked = raised(self.asked);
         u64::MAX - u64::from(view.depth)
@@ -75,6 +76,7 @@ impl Guide for Flat {
         ensures score { result ≡ 0 }
         ensures asked { self.new ≡ one_more self.old }
         ensures rose { Rose self.old self.new }
+        ensures grows { self.old ≤ self.new }
     {
         self.asked = raised(self.asked);
         0
@@ -114,6 +116,7 @@ impl Guide for Loud {
         ensures score { result ≡ last_count }
         ensures asked { self.new ≡ one_more self.old }
         ensures rose { Rose self.old self.new }
+        ensures grows { self.old ≤ self.new }
     {
         self.asked = raised(self.asked);
         u64::MAX
@@ -153,6 +156,7 @@ impl Guide for Mixer {
         ensures score { result ≡ (self.new * 6364136223846793005) % 2 ^ 64 }
         ensures asked { self.new ≡ one_more self.old }
         ensures rose { Rose self.old self.new }
+        ensures grows { self.old ≤ self.new }
     {
         self.asked = raised(self.asked);
         self.asked.wrapping_mul(6_364_136_223_846_793_005)

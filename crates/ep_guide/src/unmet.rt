@@ -1,6 +1,6 @@
 //! The guide that counts the goal's parts.
 
-ghost use Rattle.std.specs.Prelude.{◌≡◌};
+ghost use Rattle.std.specs.Prelude.{◌≡◌, ◌≤◌};
 ghost use Rattle.ep_base.specs.Counts.{Rose};
 
 use crate::guide::{Guide, View};
@@ -44,6 +44,7 @@ impl Guide for ByUnmet {
         ensures score { result ≡ unmet_score self.old view.now }
         ensures seen { self.new ≡ with_view self.old view.now }
         ensures rose { Rose self.old.asked self.new.asked }
+        ensures grows { self.old.asked ≤ self.new.asked }
     {
         self.asked = raised(self.asked);
         let plain = u64::from(view.unmet) * 1024 + u64::from(view.depth);

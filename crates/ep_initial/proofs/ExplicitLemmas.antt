@@ -32,7 +32,7 @@ use Rattle.ep_universe.specs.Objects.{agents_of}
 use Rattle.ep_universe.specs.Atoms.{atoms_of}
 use Rattle.ep_initial.specs.Explicit.{IsBuildableState}
 use Rattle.ep_initial.specs.Explicit.{explicit_state, truth_at}
-use Rattle.ep_universe.specs.Links.{agent_count, place_of, linked, links_of, designated_of, last_pairs}
+use Rattle.ep_universe.specs.Links.{agent_count, place_of, linked, links_of, designated_numbers, last_pairs}
 use Rattle.ep_initial.specs.Made.{world_link}
 use Rattle.ep_universe.specs.Links.{agent_pairs}
 use Rattle.ep_initial.specs.Parts.{AreStateParts}
@@ -107,14 +107,14 @@ module _ (d : Declared) (worlds : List WorldTree) (designated : List Name) (link
 
   -- ---- the explicit state is one, made of the parts
 
-  chosen_within : (w : ℕ) → IsIn w (designated_of names designated) → w < length worlds
+  chosen_within : (w : ℕ) → IsIn w (designated_numbers names designated) → w < length worlds
   chosen_within w i = let r = from_numbers (has_number (map (place_of names) designated)) (length names) w i in omega (arith, r.0, many_worlds)
 
-  to_chosen : (x : Name) → IsIn x designated → IsIn (place_of names x) (designated_of names designated)
+  to_chosen : (x : Name) → IsIn x designated → IsIn (place_of names x) (designated_numbers names designated)
   to_chosen x i = in_numbers (has_number (map (place_of names) designated)) (length names) (place_of names x) (place_below names x fine.some_name)
       (to_has_number (map (place_of names) designated) (place_of names x) (IsIn-map (place_of names) x designated i))
 
-  from_chosen : (w : ℕ) → IsIn w (designated_of names designated) → (x : Name) × IsIn x designated × (w ≡ place_of names x)
+  from_chosen : (w : ℕ) → IsIn w (designated_numbers names designated) → (x : Name) × IsIn x designated × (w ≡ place_of names x)
   from_chosen w i =
       let r = from_numbers (has_number (map (place_of names) designated)) (length names) w i in
       from_map (place_of names) w designated (from_has_number (map (place_of names) designated) w r.1)
@@ -147,7 +147,7 @@ module _ (d : Declared) (worlds : List WorldTree) (designated : List Name) (link
     rising = All-from_each (IsRising pair_cmp) (links_of d [] names links) links_rising;
     within = All-from_each (λ pairs. AllByRecursion (λ (q : ℕ × ℕ). (q.0 < length worlds) × (q.1 < length worlds)) pairs) (links_of d [] names links) links_within;
     designated_rising = rising_numbers (has_number (map (place_of names) designated)) (length names);
-    designated_within = All-from_each (λ w. w < length worlds) (designated_of names designated) chosen_within;
+    designated_within = All-from_each (λ w. w < length worlds) (designated_numbers names designated) chosen_within;
     some_designated = λ none. let x = first_of designated fine.some_designated in subst (IsIn (place_of names x.0)) none (to_chosen x.0 x.1);
   }
 
@@ -180,16 +180,16 @@ module _ (d : Declared) (worlds : List WorldTree) (designated : List Name) (link
           (subst (λ k. IsIn (x, k) (get_or (links_of d [] names links) a [])) (sym g)
           (subst (λ k. IsIn (x, y) (get_or (links_of d [] names links) k [])) (sym e) h))
 
-  named_from : (w : ℕ) → IsIn w (designated_of names designated) → IsIn (world w) p.designated
+  named_from : (w : ℕ) → IsIn w (designated_numbers names designated) → IsIn (world w) p.designated
   named_from w i =
       let r = from_chosen w i in
       subst (IsIn (world w)) (sym are.designated) (subst (λ k. IsIn (world k) (map (λ y. world (place_of names y)) designated)) (sym r.2) (IsIn-map (λ y. world (place_of names y)) r.0 designated r.1))
 
-  named_to : (w : ℕ) → IsIn (world w) p.designated → IsIn w (designated_of names designated)
+  named_to : (w : ℕ) → IsIn (world w) p.designated → IsIn w (designated_numbers names designated)
   named_to w i =
       let r = from_map (λ y. world (place_of names y)) (world w) designated (subst (IsIn (world w)) are.designated i) in
       let same : w ≡ place_of names r.0 = ap (λ (x : WorldId). x.n) r.2 in
-      subst (λ k. IsIn k (designated_of names designated)) (sym same) (to_chosen r.0 r.1)
+      subst (λ k. IsIn k (designated_numbers names designated)) (sym same) (to_chosen r.0 r.1)
 
   is_made : IsMadeOf p S
   is_made = record {

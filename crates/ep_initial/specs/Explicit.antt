@@ -9,7 +9,7 @@ use Rattle.ep_types.specs.Tasks.{world_names}
 use Rattle.ep_types.specs.declared.scope.Declared.{Declared}
 use Rattle.ep_universe.specs.Objects.{agents_of}
 use Rattle.ep_universe.specs.Atoms.{atoms_of, atom_at}
-use Rattle.ep_universe.specs.Links.{AreEnds, designated_of, links_of}
+use Rattle.ep_universe.specs.Links.{AreEnds, designated_numbers, links_of}
 
 -- the truth of each atom at a world: those that it lists are true
 abbrev pub truth_at : Declared → WorldTree → List Bool
@@ -22,7 +22,7 @@ explicit_state d worlds designated links = record {
   atoms = length (atoms_of d);
   truth = map (truth_at d) worlds;
   links = links_of d [] (world_names worlds) links;
-  designated = designated_of (world_names worlds) designated;
+  designated = designated_numbers (world_names worlds) designated;
 }
 
 -- few enough worlds, with names that differ, and links between them

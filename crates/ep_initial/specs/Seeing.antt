@@ -1,5 +1,5 @@
 -- What an agent sees, and which worlds it cannot tell apart.
-use Rattle.std.specs.Prelude.{ℕ, Bool, false, List, [], ◌∷◌, length, slice_index_or, if◌then◌else◌}
+use Rattle.std.specs.Prelude.{ℕ, Bool, false, List, [], length, slice_index_or}
 use Rattle.std.specs.Bool.{beq}
 use Rattle.std.specs.List.{list_all}
 use Rattle.ep_logic.specs.Rows.{value_at}
@@ -7,13 +7,13 @@ use Rattle.ep_logic.specs.Numbers.{numbers_where, table}
 use Rattle.ep_tree.specs.declared.tree.AtomTree.{AtomTree}
 use Rattle.ep_tree.specs.declared.tree.SeesTree.{SeesTree}
 use Rattle.ep_types.specs.declared.scope.Declared.{Declared}
+use Rattle.ep_universe.specs.Links.{last_said}
 use Rattle.ep_universe.specs.Objects.{group_of}
 use Rattle.ep_initial.specs.Valuations.{numbers_of}
 
 -- the atoms of the last item with the agent in its group, or else those that came before
 abbrev pub last_seen : Declared → ℕ → List AtomTree → List SeesTree → List AtomTree
-last_seen d a before [] = before
-last_seen d a before (s ∷ ss) = last_seen d a (if value_at (group_of d [] s.group) a then s.atoms else before) ss
+last_seen d a = last_said (λ (s : SeesTree). value_at (group_of d [] s.group) a) (λ (s : SeesTree). s.atoms)
 
 -- the atoms that an agent sees: none where no item names it
 abbrev pub seen : Declared → List SeesTree → ℕ → List ℕ

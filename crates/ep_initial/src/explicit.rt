@@ -43,7 +43,7 @@ pub fn explicit_state(
 {
     universe.known();
     let parts = parts(alloc, universe, worlds, ends)?;
-    made(State::build(alloc, parts))
+    expect_state(State::build(alloc, parts))
 }
 
 /// The parts of the state.
@@ -91,7 +91,7 @@ fn row(alloc: Global, universe: &Universe, listed: &[AtomTree]) -> Result<Bits, 
 }
 
 /// The state, where memory alone can be wanting.
-fn made(answer: Result<State, StateError>) -> Result<State, OutOfMemory>
+fn expect_state(answer: Result<State, StateError>) -> Result<State, OutOfMemory>
     requires { IfErr answer (λ e. e ≡ StateError.OutOfMemory) }
     ensures { IfOk result (λ state. answer ≡ Ok state) }
 {

@@ -37,7 +37,7 @@ pub fn initial_state(alloc: Global, universe: &Universe) -> Result<State, Initia
                 designated: designated.as_slice(),
                 links: links.as_slice(),
             };
-            explicit(alloc, universe, worlds.as_slice(), &ends)
+            build_explicit(alloc, universe, worlds.as_slice(), &ends)
         }
         InitTree::Lawful {
             vary,
@@ -48,7 +48,7 @@ pub fn initial_state(alloc: Global, universe: &Universe) -> Result<State, Initia
         } => {
             let form = LawfulForm {
                 vary: vary.as_slice(),
-                facts: listed(facts),
+                facts: facts_or_none(facts),
                 law,
                 sees: sees.as_slice(),
                 designated,
@@ -59,7 +59,7 @@ pub fn initial_state(alloc: Global, universe: &Universe) -> Result<State, Initia
 }
 
 /// The state of the explicit form, where it has few enough worlds.
-fn explicit(
+fn build_explicit(
     alloc: Global,
     universe: &Universe,
     worlds: &[WorldTree],
@@ -75,7 +75,7 @@ fn explicit(
 }
 
 /// The facts, or none where the part is left out.
-fn listed(facts: &Option<List<AtomTree>>) -> &[AtomTree]
+fn facts_or_none(facts: &Option<List<AtomTree>>) -> &[AtomTree]
     ensures { result.now ≡ unwrap_or facts.now [] }
 {
     match facts {

@@ -11,8 +11,8 @@ ghost use Rattle.ep_initial.specs.Valuations.{varied};
 
 use crate::fault::InitialError;
 use crate::limits::MOST_VARIED;
-use crate::meeting::{kept, meeting};
-use crate::numbers::{distinct, numbers_of};
+use crate::meeting::{keep_meeting, label_rows};
+use crate::numbers::{keep_distinct, numbers_of};
 use crate::rows::possible_rows;
 use crate::seeing::relations;
 use ep_kripke::State;
@@ -69,14 +69,14 @@ fn lawful_worlds(
     ensures refused { IfErr result (λ e. (n : ℕ) →
         Reports InitialError.OutOfMemory (fault_by (length (varied universe.now.names vary.now)) (length (spec.lawful_worlds universe.now.names vary.now facts.now law.now)) n) e) }
 {
-    let varied = few_varied(alloc, universe, vary)?;
+    let varied = find_varied(alloc, universe, vary)?;
     let rows = possible_rows(alloc, universe, varied.as_slice(), facts)?;
-    let worlds = kept(alloc, universe, rows.as_slice(), law)?;
-    few_worlds(worlds)
+    let worlds = keep_meeting(alloc, universe, rows.as_slice(), law)?;
+    check_few_worlds(worlds)
 }
 
 /// The distinct varied atoms, where they are few.
-fn few_varied(
+fn find_varied(
     alloc: Global,
     universe: &Universe,
     vary: &[AtomTree],
@@ -87,7 +87,7 @@ fn few_varied(
         Reports InitialError.OutOfMemory (fault_by (length (varied universe.now.names vary.now)) worlds designated) e) }
 {
     let numbers = numbers_of(alloc, universe, vary)?;
-    let varied = distinct(alloc, numbers.as_slice())?;
+    let varied = keep_distinct(alloc, numbers.as_slice())?;
     let count = varied.as_slice().len();
     if count > MOST_VARIED {
         return Err(InitialError::TooManyVaried {
@@ -98,7 +98,7 @@ fn few_varied(
 }
 
 /// The worlds, where they are few.
-fn few_worlds(worlds: List<Bits>) -> Result<List<Bits>, InitialError>
+fn check_few_worlds(worlds: List<Bits>) -> Result<List<Bits>, InitialError>
     ensures same { IfOk result (λ rows. rows ≡ worlds) }
     ensures few { OnOk result (length worlds ≤ MOST_INITIAL_WORLDS) }
     ensures refused { IfErr result (λ e. (varied designated : ℕ) → varied ≤ MOST_VARIED →
@@ -131,7 +131,7 @@ fn designated_worlds(
     if worlds.is_empty() {
         return Err(InitialError::NoDesignated);
     }
-    let meets = meeting(alloc, universe, worlds, designated)?;
+    let meets = label_rows(alloc, universe, worlds, designated)?;
     let places = meets.places(alloc)?;
     if places.as_slice().is_empty() {
         return Err(InitialError::NoDesignated);

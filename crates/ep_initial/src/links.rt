@@ -12,7 +12,7 @@ use ep_kripke::Link;
 use ep_logic::{AgentId, List, OutOfMemory, WorldId};
 use ep_name::NameTable;
 use ep_tree::{LinkTree, Name, WorldTree};
-use ep_universe::links::{item_pairs, last_pairs, place_of};
+use ep_universe::links::{find_last_pairs, item_pairs, place_of};
 use ep_universe::names::copy_text;
 use ep_universe::universe::Universe;
 use std::alloc::Global;
@@ -77,7 +77,7 @@ pub fn world_links(
     let mut links = List::new(alloc);
     for n in 0..agents {
         let agent = AgentId { n };
-        let pairs = item_pairs(alloc, names, last_pairs(universe, &[], items, agent))?;
+        let pairs = item_pairs(alloc, names, find_last_pairs(universe, &[], items, agent))?;
         push_world_links(&mut links, agent, pairs.as_slice())?;
     }
     Ok(links)

@@ -17,7 +17,7 @@ use ep_universe::formula::ground_form;
 use std::alloc::Global;
 
 /// The rows that meet the formula.
-pub(crate) fn kept(
+pub(crate) fn keep_meeting(
     alloc: Global,
     universe: &Universe,
     rows: &[Bits],
@@ -29,7 +29,7 @@ pub(crate) fn kept(
     requires long { AllByRecursion (λ row. length row ≡ length (atoms_of universe.now.names)) rows.now }
     ensures { IfOk result (λ kept. kept ≡ filter (meets universe.now.names formula.now) rows.now) }
 {
-    let meets = meeting(alloc, universe, rows, formula)?;
+    let meets = label_rows(alloc, universe, rows, formula)?;
     let mut kept = List::new(alloc);
     for (place, row) in rows.iter().enumerate() {
         if meets.get(place as u32) {
@@ -40,7 +40,7 @@ pub(crate) fn kept(
 }
 
 /// Whether each row meets the formula, in one state of all rows.
-pub(crate) fn meeting(
+pub(crate) fn label_rows(
     alloc: Global,
     universe: &Universe,
     rows: &[Bits],
@@ -55,12 +55,17 @@ pub(crate) fn meeting(
     let form = ground_form(alloc, universe, formula, &[])?;
     let agents = universe.agents();
     let atoms = universe.atoms();
-    let state = unlinked(alloc, agents, atoms, rows)?;
+    let state = build_unlinked(alloc, agents, atoms, rows)?;
     label(alloc, &state, &form)
 }
 
 /// The state of these worlds where nobody links any.
-fn unlinked(alloc: Global, agents: u32, atoms: u32, rows: &[Bits]) -> Result<State, OutOfMemory>
+fn build_unlinked(
+    alloc: Global,
+    agents: u32,
+    atoms: u32,
+    rows: &[Bits],
+) -> Result<State, OutOfMemory>
     requires agents { agents ≤ MOST_AGENTS }
     requires atoms { atoms ≤ MOST_ATOMS }
     requires some { 0 < length rows.now }
@@ -68,7 +73,7 @@ fn unlinked(alloc: Global, agents: u32, atoms: u32, rows: &[Bits]) -> Result<Sta
     requires long { AllByRecursion (λ row. length row ≡ atoms) rows.now }
     ensures { IfOk result (λ state. state ≡ unlinked agents atoms rows.now) }
 {
-    let truth = copied(alloc, rows)?;
+    let truth = copy_rows(alloc, rows)?;
     let relations = no_relations(alloc, agents, rows.len())?;
     let mut designated = List::new(alloc);
     designated.push(0u32)?;
@@ -76,7 +81,7 @@ fn unlinked(alloc: Global, agents: u32, atoms: u32, rows: &[Bits]) -> Result<Sta
     Ok(state)
 }
 
-fn copied(alloc: Global, rows: &[Bits]) -> Result<List<Bits>, OutOfMemory>
+fn copy_rows(alloc: Global, rows: &[Bits]) -> Result<List<Bits>, OutOfMemory>
     ensures { IfOk result (λ copies. copies ≡ rows.now) }
 {
     let mut copies = List::new(alloc);

@@ -42,7 +42,7 @@ fn push_new(numbers: &mut List<u32>, number: u32) -> Result<(), OutOfMemory>
 
 /// The numbers, each once, in the order in which they first stand there.
 #[tactic(auto, using(crate::proofs::DistinctLemmas::distinct_steps))]
-pub(crate) fn distinct(alloc: Global, numbers: &[u32]) -> Result<List<u32>, OutOfMemory>
+pub(crate) fn keep_distinct(alloc: Global, numbers: &[u32]) -> Result<List<u32>, OutOfMemory>
     ensures { IfOk result (λ firsts. firsts ≡ distinct numbers.now) }
 {
     let mut firsts = List::new(alloc);

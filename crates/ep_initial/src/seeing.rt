@@ -15,7 +15,7 @@ use ep_universe::Universe;
 use std::alloc::Global;
 
 /// The atoms of the last item whose group has the agent, where there is one.
-fn last_seen<'a>(
+fn find_last_seen<'a>(
     universe: &Universe,
     sees: &'a [SeesTree],
     agent: AgentId,
@@ -32,7 +32,7 @@ fn last_seen<'a>(
 }
 
 /// The numbers of the atoms that an agent sees.
-fn seen(
+fn atoms_seen(
     alloc: Global,
     universe: &Universe,
     sees: &[SeesTree],
@@ -40,7 +40,7 @@ fn seen(
 ) -> Result<List<u32>, OutOfMemory>
     ensures { IfOk result (λ numbers. numbers ≡ seen universe.now.names sees.now agent.n) }
 {
-    match last_seen(universe, sees, agent) {
+    match find_last_seen(universe, sees, agent) {
         Some(atoms) => numbers_of(alloc, universe, atoms.as_slice()),
         None => Ok(List::new(alloc)),
     }
@@ -61,7 +61,12 @@ fn agree(atoms: &[u32], v: &Bits, w: &Bits) -> bool
 }
 
 /// The places of the rows that agree with a row.
-fn alike(alloc: Global, rows: &[Bits], atoms: &[u32], row: &Bits) -> Result<Vec<u32>, OutOfMemory>
+fn find_alike(
+    alloc: Global,
+    rows: &[Bits],
+    atoms: &[u32],
+    row: &Bits,
+) -> Result<Vec<u32>, OutOfMemory>
     requires { length rows.now ≤ MOST_INITIAL_WORLDS }
     ensures { IfOk result (λ places. places.items ≡ numbers_where (λ w. agree atoms.now row.now (slice_index_or rows.now w [])) (length rows.now)) }
 {
@@ -75,13 +80,13 @@ fn alike(alloc: Global, rows: &[Bits], atoms: &[u32], row: &Bits) -> Result<Vec<
 }
 
 /// For each row, the places of those that agree with it.
-fn alike_rows(alloc: Global, rows: &[Bits], atoms: &[u32]) -> Result<Rows, OutOfMemory>
+fn find_alike_rows(alloc: Global, rows: &[Bits], atoms: &[u32]) -> Result<Rows, OutOfMemory>
     requires { length rows.now ≤ MOST_INITIAL_WORLDS }
     ensures { IfOk result (λ links. links ≡ alike_rows rows.now atoms.now) }
 {
     let mut links = Rows::new(alloc);
     for row in rows {
-        links.push(&alike(alloc, rows, atoms, row)?)?;
+        links.push(&find_alike(alloc, rows, atoms, row)?)?;
     }
     Ok(links)
 }
@@ -99,8 +104,8 @@ pub(crate) fn relations(
     let agents = universe.agents();
     let mut relations = List::new(alloc);
     for n in 0..agents {
-        let atoms = seen(alloc, universe, sees, AgentId { n })?;
-        relations.push(alike_rows(alloc, rows, atoms.as_slice())?)?;
+        let atoms = atoms_seen(alloc, universe, sees, AgentId { n })?;
+        relations.push(find_alike_rows(alloc, rows, atoms.as_slice())?)?;
     }
     Ok(relations)
 }

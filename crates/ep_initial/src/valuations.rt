@@ -13,13 +13,13 @@ pub(crate) fn valuations(alloc: Global, count: usize) -> Result<List<List<bool>>
     let mut all = List::new(alloc);
     all.push(List::new(alloc))?;
     for _done in 0..count {
-        all = doubled(alloc, all.as_slice())?;
+        all = double_lists(alloc, all.as_slice())?;
     }
     Ok(all)
 }
 
 /// Each value before each list.
-fn doubled(alloc: Global, rests: &[List<bool>]) -> Result<List<List<bool>>, OutOfMemory>
+fn double_lists(alloc: Global, rests: &[List<bool>]) -> Result<List<List<bool>>, OutOfMemory>
     ensures { IfOk result (λ all. all ≡ map (λ v. false ∷ v) rests.now ++ map (λ v. true ∷ v) rests.now) }
 {
     let mut all = List::new(alloc);

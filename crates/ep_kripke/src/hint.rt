@@ -7,16 +7,31 @@ use std::collections::HashMap;
 // How many rows are looked through one by one, which is faster while they are few.
 pub(crate) const FIRST_ROWS: u32 = 8;
 
-// For the mixed words of each later row its number.
+// For each start of a row the first row that begins so, and for the mixed words of each later row its number. So a row
+// whose start is new is new, and is not mixed.
 #[derive(Drop)]
 pub(crate) struct Hint {
+    firsts: Vec<Option<u32>>,
     seen: HashMap<u64, u32>,
 }
 
 impl Hint {
-    pub(crate) fn new(alloc: Global) -> Hint {
-        Hint {
+    pub(crate) fn new(alloc: Global, worlds: u32) -> Result<Hint, OutOfMemory> {
+        Ok(Hint {
+            firsts: vec![in alloc; None; worlds as usize + 1]?,
             seen: HashMap::new(alloc),
+        })
+    }
+
+    // The first row that begins so.
+    pub(crate) fn first(&self, start: usize) -> Option<u32> {
+        self.firsts.get(start).copied()?
+    }
+
+    // A row that is the first to begin so.
+    pub(crate) fn begins(&mut self, start: usize, name: u32) {
+        if let Some(first) = self.firsts.get_mut(start) {
+            *first = Some(name);
         }
     }
 
@@ -29,6 +44,14 @@ impl Hint {
             self.seen.insert(mixed, name).map_err(AllocError::from)?;
         }
         Ok(())
+    }
+}
+
+// How a row begins: 0 where it is empty, else one more than its first number.
+pub(crate) fn start_of(row: &[u32]) -> usize {
+    match row.first() {
+        Some(number) => *number as usize + 1,
+        None => 0,
     }
 }
 

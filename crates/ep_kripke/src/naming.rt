@@ -1,4 +1,4 @@
-ghost use Rattle.std.specs.Prelude.{◌≡◌, ℕ, ◌<◌, ◌≤◌, ◌++◌, ◌∷◌, [], false, replicate, length, slice_index_or, if◌then◌else◌, IfSome, IfOk, OnOk, OnErr};
+ghost use Rattle.std.specs.Prelude.{◌≡◌, ℕ, ◌<◌, ◌≤◌, ◌++◌, ◌∷◌, [], false, replicate, length, slice_index_or, if◌then◌else◌, IsTrue, IfSome, IfOk, OnOk, OnErr};
 ghost use Rattle.std.specs.Ordering.{nat_cmp};
 ghost use Rattle.std.specs.List.{AllByRecursion};
 ghost use Rattle.ep_logic.specs.Numbers.{has_number};
@@ -8,7 +8,7 @@ ghost use Rattle.ep_theory.specs.Rising.{IsRising};
 ghost use Rattle.ep_kripke.specs.Relations.{members, Extends};
 ghost use Rattle.ep_kripke.specs.Kept.{kept_rows, names_of, AreWide};
 
-use crate::hint::{FIRST_ROWS, Hint, mix_numbers, mix_words};
+use crate::hint::{FIRST_ROWS, Hint, mix_numbers, mix_words, start_of};
 use crate::limits::{MOST_PACKED, MOST_WORLDS};
 use crate::relation::Relation;
 use crate::row_set::{Kept, RowSet};
@@ -112,7 +112,7 @@ fn packed(alloc: Global, worlds: u32) -> Result<Naming, OutOfMemory>
         worlds,
         kept: Kept::Packed(BitTable::zeros(alloc, 0, worlds)?),
         blank: Bits::zeros(alloc, worlds)?,
-        hint: Hint::new(alloc),
+        hint: Hint::new(alloc, worlds)?,
         pushed: Vec::new(alloc),
         links: 0,
     })
@@ -126,7 +126,7 @@ fn listed(alloc: Global, worlds: u32) -> Result<Naming, OutOfMemory>
         worlds,
         kept: Kept::Listed(Rows::new(alloc)),
         blank: Bits::zeros(alloc, 0)?,
-        hint: Hint::new(alloc),
+        hint: Hint::new(alloc, worlds)?,
         pushed: Vec::new(alloc),
         links: 0,
     })
@@ -175,7 +175,7 @@ fn name_of_bits(
     ensures err { OnErr result (table.new ≡ table.old) }
 {
     write_all(blank, row, true);
-    let named = name_of_words(table, hint, blank.words());
+    let named = name_of_words(table, hint, start_of(row), blank.words());
     write_all(blank, row, false);
     named
 }
@@ -191,7 +191,52 @@ fn write_all(bits: &mut Bits, places: &[u32], v: bool)
     }
 }
 
-fn name_of_words(table: &mut BitTable, hint: &mut Hint, words: &[u64]) -> Result<u32, OutOfMemory>
+fn name_of_words(
+    table: &mut BitTable,
+    hint: &mut Hint,
+    start: usize,
+    words: &[u64],
+) -> Result<u32, OutOfMemory>
+    requires room { length table.old.rows < MOST_WORLDS }
+    requires packed { IsPacked words.now table.old.width }
+    ensures name { IfOk result (λ name. name < length table.new.rows) }
+    ensures row { IfOk result (λ name. slice_index_or table.new.rows name [] ≡ unpacked words.now table.old.width) }
+    ensures more { OnOk result (Extends table.old.rows table.new.rows) }
+    ensures width { table.new.width ≡ table.old.width }
+    ensures err { OnErr result (table.new ≡ table.old) }
+{
+    let Some(first) = hint.first(start) else {
+        let name = put_words(table, words)?;
+        hint.begins(start, name);
+        return Ok(name);
+    };
+    if has_words(table, first, words) {
+        return Ok(first);
+    }
+    name_of_later_words(table, hint, words)
+}
+
+// Puts the words at the end, and gives their number.
+fn put_words(table: &mut BitTable, words: &[u64]) -> Result<u32, OutOfMemory>
+    requires room { length table.old.rows < MOST_WORLDS }
+    requires packed { IsPacked words.now table.old.width }
+    ensures name { IfOk result (λ name. name < length table.new.rows) }
+    ensures row { IfOk result (λ name. slice_index_or table.new.rows name [] ≡ unpacked words.now table.old.width) }
+    ensures more { OnOk result (Extends table.old.rows table.new.rows) }
+    ensures width { table.new.width ≡ table.old.width }
+    ensures err { OnErr result (table.new ≡ table.old) }
+{
+    let name = table.len();
+    table.push(words)?;
+    Ok(name)
+}
+
+// The number of a row that begins as an earlier one.
+fn name_of_later_words(
+    table: &mut BitTable,
+    hint: &mut Hint,
+    words: &[u64],
+) -> Result<u32, OutOfMemory>
     requires room { length table.old.rows < MOST_WORLDS }
     requires packed { IsPacked words.now table.old.width }
     ensures name { IfOk result (λ name. name < length table.new.rows) }
@@ -204,10 +249,8 @@ fn name_of_words(table: &mut BitTable, hint: &mut Hint, words: &[u64]) -> Result
     if let Some(name) = find_words(table, hint.find(mixed), words) {
         return Ok(name);
     }
-    let name = table.len();
-    hint.add(mixed, name)?;
-    table.push(words)?;
-    Ok(name)
+    hint.add(mixed, table.len())?;
+    put_words(table, words)
 }
 
 // The number of a row with these words, among the first ones and at the place that is hinted at.
@@ -222,13 +265,55 @@ fn find_words(table: &BitTable, hinted: Option<u32>, words: &[u64]) -> Option<u3
         }
     }
     let name = hinted?;
-    if name < table.len() && table.row(name) == words {
+    if has_words(table, name, words) {
         return Some(name);
     }
     None
 }
 
+// Whether the row with this number has these words.
+fn has_words(table: &BitTable, name: u32, words: &[u64]) -> bool
+    requires { IsPacked words.now table.now.width }
+    ensures { IsTrue result → (name < length table.now.rows)
+        × (slice_index_or table.now.rows name [] ≡ unpacked words.now table.now.width) }
+{
+    name < table.len() && table.row(name) == words
+}
+
 fn name_of_list(rows: &mut Rows, hint: &mut Hint, row: &[u32]) -> Result<u32, OutOfMemory>
+    requires room { length rows.old < MOST_WORLDS }
+    ensures name { IfOk result (λ name. name < length rows.new) }
+    ensures row { IfOk result (λ name. slice_index_or rows.new name [] ≡ row.now) }
+    ensures more { OnOk result (Extends rows.old rows.new) }
+    ensures err { OnErr result (rows.new ≡ rows.old) }
+{
+    let start = start_of(row);
+    let Some(first) = hint.first(start) else {
+        let name = put_list(rows, row)?;
+        hint.begins(start, name);
+        return Ok(name);
+    };
+    if has_list(rows, first, row) {
+        return Ok(first);
+    }
+    name_of_later_list(rows, hint, row)
+}
+
+// Puts the row at the end, and gives its number.
+fn put_list(rows: &mut Rows, row: &[u32]) -> Result<u32, OutOfMemory>
+    requires room { length rows.old < MOST_WORLDS }
+    ensures name { IfOk result (λ name. name < length rows.new) }
+    ensures row { IfOk result (λ name. slice_index_or rows.new name [] ≡ row.now) }
+    ensures more { OnOk result (Extends rows.old rows.new) }
+    ensures err { OnErr result (rows.new ≡ rows.old) }
+{
+    let name = rows.len() as u32;
+    rows.push(row)?;
+    Ok(name)
+}
+
+// The number of a row that begins as an earlier one.
+fn name_of_later_list(rows: &mut Rows, hint: &mut Hint, row: &[u32]) -> Result<u32, OutOfMemory>
     requires room { length rows.old < MOST_WORLDS }
     ensures name { IfOk result (λ name. name < length rows.new) }
     ensures row { IfOk result (λ name. slice_index_or rows.new name [] ≡ row.now) }
@@ -239,10 +324,8 @@ fn name_of_list(rows: &mut Rows, hint: &mut Hint, row: &[u32]) -> Result<u32, Ou
     if let Some(name) = find_list(rows, hint.find(mixed), row) {
         return Ok(name);
     }
-    let name = rows.len() as u32;
-    hint.add(mixed, name)?;
-    rows.push(row)?;
-    Ok(name)
+    hint.add(mixed, rows.len() as u32)?;
+    put_list(rows, row)
 }
 
 fn find_list(rows: &Rows, hinted: Option<u32>, row: &[u32]) -> Option<u32>
@@ -255,8 +338,15 @@ fn find_list(rows: &Rows, hinted: Option<u32>, row: &[u32]) -> Option<u32>
         }
     }
     let name = hinted?;
-    if (name as usize) < rows.len() && rows.row(name as usize) == row {
+    if has_list(rows, name, row) {
         return Some(name);
     }
     None
+}
+
+// Whether the row with this number is this one.
+fn has_list(rows: &Rows, name: u32, row: &[u32]) -> bool
+    ensures { IsTrue result → (name < length rows.now) × (slice_index_or rows.now name [] ≡ row.now) }
+{
+    (name as usize) < rows.len() && rows.row(name as usize) == row
 }

@@ -5,5 +5,5 @@ pub mod laws;
 pub mod print;
 pub mod table;
 
-pub use print::printed;
+pub use print::print_name;
 pub use table::NameTable;

@@ -8,7 +8,7 @@ use std::alloc::Global;
 
 /// The declared name, and where there are objects, their names in parentheses, with `,` between them and no blank.
 /// `names` are those of all objects, by number.
-pub fn printed(
+pub fn print_name(
     alloc: Global,
     name: &Text,
     names: &[Text],

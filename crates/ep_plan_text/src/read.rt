@@ -122,7 +122,7 @@ fn name_of(alloc: Global, call: &CallTree) -> Result<Vec<u8>, NoMemory>
 }
 
 /// The actions that the calls name.
-fn named_actions(
+fn find_actions(
     alloc: Global,
     task: &Task,
     tokens: &TokenList,
@@ -174,7 +174,7 @@ fn check_numbers(task: &Task, tree: &PlanTree, plan: &Plan) -> Result<(), PlanEr
 }
 
 /// The plan of a file that is read.
-fn judged(alloc: Global, task: &Task, file: &ParsedText<PlanTree>) -> Result<Plan, PlanError>
+fn find_plan(alloc: Global, task: &Task, file: &ParsedText<PlanTree>) -> Result<Plan, PlanError>
     requires places { All (λ call. call.name.token < length file.now.tokens.tokens) file.now.tree.calls }
     requires few { length file.now.tree.calls ≤ MOST_TOKENS }
     ensures plan { IfOk result (IsPlanOf task.now file.now.tree) }
@@ -185,7 +185,7 @@ fn judged(alloc: Global, task: &Task, file: &ParsedText<PlanTree>) -> Result<Pla
     if tree.task.text.as_slice() != task.name().as_slice() {
         return Err(PlanError::OtherTask);
     }
-    let plan = named_actions(alloc, task, &file.tokens, tree.calls.as_slice())?;
+    let plan = find_actions(alloc, task, &file.tokens, tree.calls.as_slice())?;
     check_numbers(task, tree, &plan)?;
     Ok(plan)
 }
@@ -206,5 +206,5 @@ pub fn read_plan(alloc: Global, task: &Task, bytes: &[u8]) -> Result<Plan, PlanE
     ensures of_task { IfOk result (All (λ a. a.n < length task.now.actions)) }
 {
     let file = read_file(alloc, bytes)?;
-    judged(alloc, task, &file)
+    find_plan(alloc, task, &file)
 }

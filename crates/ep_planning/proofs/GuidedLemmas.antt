@@ -13,12 +13,12 @@ use Rattle.ep_answer.specs.declared.status.Status.TheVariants.{ReadFault}
 use Rattle.ep_answer.specs.Answer.{answer_status, answer_text}
 use Rattle.ep_planning.specs.Planning.{Guided}
 use Rattle.ep_reading.specs.Run.{IsAnswerOf}
-use Rattle.ep_reading.specs.Served.{Outcome, Answers, answers}
-use Rattle.ep_reading.specs.Steps.{Serves, StopsAnswer, StopsWork, Tells}
+use Rattle.ep_reading.specs.Served.{Ending, Answers, answers}
+use Rattle.ep_reading.specs.Steps.{Serves, StopsAnswer, StopsWork, EndsBy}
 use Rattle.ep_reading.proofs.CallerLemmas.{IsBehind, no_guide_no_fetch, IsAnswerOf-held, all_held, behind_is_answer}
 
 -- where there is no guide at the place
-pub serves_no_guide : (guides place : ℕ) (work : FileMap → Outcome → Type 0) (names : Subject → List ℕ → Type 0) (library : LibraryState) → guides ≤ place
+pub serves_no_guide : (guides place : ℕ) (work : FileMap → Ending → Type 0) (names : Subject → List ℕ → Type 0) (library : LibraryState) → guides ≤ place
     → IsAnswerOf (λ files. Guided guides place (work files)) names (guides ≤ place) library library (answer_status NoSuchGuide) (answer_text NoSuchGuide)
 serves_no_guide guides place work names library l = record {
   possible = tt;
@@ -33,7 +33,7 @@ serves_no_guide guides place work names library l = record {
     no_fault e = cc
 
 -- and where there is one
-pub serves_guided : (guides place : ℕ) (work : FileMap → Outcome → Type 0) (names : Subject → List ℕ → Type 0) (old new : LibraryState) (r : Result Answer Stop) → place < guides
+pub serves_guided : (guides place : ℕ) (work : FileMap → Ending → Type 0) (names : Subject → List ℕ → Type 0) (old new : LibraryState) (r : Result Answer Stop) → place < guides
     → Serves work names ⊥ old new r → Serves (λ files. Guided guides place (work files)) names (guides ≤ place) old new r
 serves_guided guides place work names old new r l h =
     let none : ⊥ ↔ (guides ≤ place) = (λ x. absurd x, λ k. absurd (omega (arith, k, l))) in
@@ -48,12 +48,12 @@ serves_guided guides place work names old new r l h =
         (λ x. absurd x, λ k. absurd (omega (arith, k, l))) (all_held old.held (λ files o w. inr (l, w))) (λ s name n. n) k
     guided_stop OutOfMemory k = k
 
-pub tells_map : (work more : Outcome → Type 0) (r : Result Answer Stop) → ((o : Outcome) → work o → more o) → Tells work r → Tells more r
+pub tells_map : (work more : Ending → Type 0) (r : Result Answer Stop) → ((o : Ending) → work o → more o) → EndsBy work r → EndsBy more r
 tells_map work more (Ok answer) f h = f (answers answer) h
 tells_map work more (Err (Told answer)) f h = f (answers answer) h
 tells_map work more (Err OutOfMemory) f h = h
 
-told_guide : (guides : ℕ) (W : Outcome → Type 0) (names : Subject → List ℕ → Type 0) (library : LibraryState) (status : Status) (text : List ℕ)
+told_guide : (guides : ℕ) (W : Ending → Type 0) (names : Subject → List ℕ → Type 0) (library : LibraryState) (status : Status) (text : List ℕ)
     → ((status : Status) (text : List ℕ) → W (Answers status text) → IsBehind status text)
     → Guided guides 0 W (Answers status text) → IsAnswerOf (λ files. Guided guides 0 W) names (guides ≤ 0) library library status text
 told_guide guides W names library status text b (inl (none, told)) =
@@ -65,9 +65,9 @@ told_guide guides W names library status text b (inr (some, w)) =
     (λ x. absurd x, λ k. absurd (omega (arith, k, some))) (all_held library.held (λ files o v. inr (some, v))) (λ s name n. n)
     (behind_is_answer (λ files. W) names library library status text (b status text w) (all_held library.held (λ files. w)))
 
-pub serves_told_guide : (guides : ℕ) (W : Outcome → Type 0) (names : Subject → List ℕ → Type 0) (library : LibraryState) (r : Result Answer Stop)
+pub serves_told_guide : (guides : ℕ) (W : Ending → Type 0) (names : Subject → List ℕ → Type 0) (library : LibraryState) (r : Result Answer Stop)
     → ((status : Status) (text : List ℕ) → W (Answers status text) → IsBehind status text)
-    → Tells (Guided guides 0 W) r → Serves (λ files. Guided guides 0 W) names (guides ≤ 0) library library r
+    → EndsBy (Guided guides 0 W) r → Serves (λ files. Guided guides 0 W) names (guides ≤ 0) library library r
 serves_told_guide guides W names library (Ok answer) b h = told_guide guides W names library (answer_status answer) (answer_text answer) b h
 serves_told_guide guides W names library (Err (Told answer)) b h = told_guide guides W names library (answer_status answer) (answer_text answer) b h
 serves_told_guide guides W names library (Err OutOfMemory) b h = h

@@ -25,7 +25,7 @@ use Rattle.ep_plan_text.specs.declared.print.Mark.{Mark}
 use Rattle.ep_plan_text.specs.declared.print.Mark.TheVariants as mark
 use Rattle.ep_reading.specs.PlanFile.{AreItsActions}
 use Rattle.ep_planning.specs.Planning.{HasItsActions, IsPrintable, Plans, planned_of}
-use Rattle.ep_reading.specs.Served.{Answers, Outcome, answers}
+use Rattle.ep_reading.specs.Served.{Answers, Ending, answers}
 use Rattle.ep_reading.proofs.CallerLemmas.{IsBehind, other_is_behind, answers_are}
 use Rattle.ep_answer.specs.declared.status.Status.TheVariants as done
 
@@ -88,7 +88,7 @@ allowed_has_actions g b m (found.Wide p) task few e h = actions_of_plan g p h.wi
 
 -- ---- answers of planning
 
-pub plans_by : (bounds : Bounds) (m : Mode) (g : GroundTask) (a : Found) (o : Outcome)
+pub plans_by : (bounds : Bounds) (m : Mode) (g : GroundTask) (a : Found) (o : Ending)
     → Allowed g.problem bounds m a → o ≡ answers (OfSearch (planned_of g bounds a)) → Plans bounds m g o
 unfolding Plans
 plans_by bounds m g a o h is = (a, h, is)

@@ -15,7 +15,7 @@ use Rattle.ep_answer.specs.declared.answer.Answer.TheVariants.{Tried}
 use Rattle.ep_answer.specs.declared.trial_text.Trial.{Trial}
 use Rattle.ep_answer.specs.declared.trial_text.TrialEnd.{TrialEnd}
 use Rattle.ep_answer.specs.declared.trial_text.TrialEnd.TheVariants.{Solved, Open}
-use Rattle.ep_reading.specs.Served.{Outcome, answers}
+use Rattle.ep_reading.specs.Served.{Ending, answers}
 use Rattle.ep_planning.specs.Planning.{planned_of}
 
 -- n actions, 1,000 states and 256 worlds
@@ -38,5 +38,5 @@ pub record IsTrial (n : ℕ) (g : GroundTask) (trial : Trial) : Type 0 where
   pub allowed : Allowed g.problem (trial_bounds n) mode.Prove answer
   pub ends : TrialEnds g n answer trial.end
 
-unfoldable pub Tries : ℕ → GroundTask → Outcome → Type 0
+unfoldable pub Tries : ℕ → GroundTask → Ending → Type 0
 Tries n g outcome = (trial : Trial) × IsTrial n g trial × (outcome ≡ answers (Tried trial))

@@ -1,6 +1,7 @@
 //! The commands that search for a plan: `plan` and `trial`.
 #![tactic(auto)]
 
+pub mod laws;
 mod plan;
 mod trial;
 

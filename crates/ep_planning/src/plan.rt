@@ -1,12 +1,13 @@
 // `plan FILE` and its options.
-ghost use Rattle.std.specs.Prelude.{◌≡◌, ◌<◌, ◌≤◌, IfOk, length};
+ghost use Rattle.std.specs.Prelude.{◌≡◌, ◌<◌, ◌≤◌, [], ◌∷◌, IfOk, length};
 ghost use Rattle.ep_base.specs.Counts.{Rose};
 ghost use Rattle.ep_search.specs.Allowed.{Allowed, WasAsked};
 ghost use Rattle.ep_bounds.specs.Bounds.{IsBounds};
 ghost use Rattle.ep_planning.specs.Planning.{Guided};
 ghost use Rattle.ep_reading.specs.Guides.{AnswerNeeds, ResultNeeds};
-ghost use Rattle.ep_planning.specs.Asked.{WasAskedAt};
+ghost use Rattle.ep_planning.specs.Asked.{KeepsBut, WasAskedAt};
 ghost use Rattle.ep_planning.specs.Planning.{HasItsActions, Plans, planned_of};
+ghost use Rattle.ep_reading.specs.Fetches.{Fetches};
 ghost use Rattle.ep_reading.specs.Run.{GoesOn};
 ghost use Rattle.ep_reading.specs.Served.{TaskFile, answers};
 ghost use Rattle.ep_reading.specs.Steps.{OnlyFile, Serves};
@@ -69,6 +70,7 @@ fn search_on<L: Ledger>(
     requires some { 0 < L.parts }
     ensures allowed { IfOk result (Allowed problem.now bounds mode) }
     ensures asked { IfOk result (λ found. WasAsked bounds.bound found (asked guide.old) (asked guide.new)) }
+    ensures grows { asked guide.old ≤ asked guide.new }
 {
     let mut steps = Steps::<L>::new(blank);
     search(alloc, problem, bounds, mode, guide, &mut steps)
@@ -85,6 +87,7 @@ pub fn search_plan(
     requires { IsBounds bounds }
     ensures allowed { IfOk result (Allowed problem.now bounds mode) }
     ensures asked { IfOk result (λ found. WasAsked bounds.bound found (asked guide.old) (asked guide.new)) }
+    ensures grows { asked guide.old ≤ asked guide.new }
 {
     search_on::<Brand>(alloc, problem, bounds, mode, guide, Blank::new(1))
 }
@@ -100,6 +103,7 @@ fn plan_task(
     requires { IsBounds bounds }
     ensures plans { IfOk result (λ answer. Plans bounds mode task.now (answers answer)) }
     ensures asked { IfOk result (λ answer. 1 ≤ bounds.bound → AnswerNeeds answer → Rose (asked guide.old) (asked guide.new)) }
+    ensures grows { asked guide.old ≤ asked guide.new }
 {
     task.known();
     let found = search_plan(alloc, task.problem(), bounds, mode, guide)?;
@@ -118,8 +122,10 @@ fn plan_file<L: Library>(
 ) -> Result<Answer, Stop>
     requires { IsBounds bounds }
     ensures goes_on { GoesOn (L.library files.old) (L.library files.new) }
+    ensures fetches { Fetches (file.now ∷ []) (L.library files.old) (L.library files.new) }
     ensures answer { Serves (λ held. TaskFile held file.now (Plans bounds mode)) (OnlyFile OfTask file.now) ⊥ (L.library files.old) (L.library files.new) result }
     ensures asked { 1 ≤ bounds.bound → ResultNeeds result → Rose (asked guide.old) (asked guide.new) }
+    ensures grows { asked guide.old ≤ asked guide.new }
 {
     let task = read_task_file(alloc, files, file)?;
     let answer = plan_task(alloc, &task, bounds, mode, guide)?;
@@ -138,8 +144,10 @@ pub fn plan_by_guide<L: Library>(
 ) -> Result<Answer, Stop>
     requires { IsBounds bounds }
     ensures goes_on { GoesOn (L.library files.old) (L.library files.new) }
+    ensures fetches { Fetches (file.now ∷ []) (L.library files.old) (L.library files.new) }
     ensures answer { Serves (λ held. Guided (length guides.old.items) place (TaskFile held file.now (Plans bounds mode))) (OnlyFile OfTask file.now) (length guides.old.items ≤ place) (L.library files.old) (L.library files.new) result }
     ensures asked { 1 ≤ bounds.bound → ResultNeeds result → WasAskedAt (λ g. asked g) guides.old.items guides.new.items place }
+    ensures others { KeepsBut (λ g. asked g) (λ other. other ≡ place) guides.old.items guides.new.items }
 {
     if place >= guides.len() {
         return Ok(Answer::NoSuchGuide);

@@ -5,11 +5,12 @@ ghost use Rattle.ep_bounds.specs.declared.bounds.Mode.TheVariants as mode;
 ghost use Rattle.ep_theory.specs.Canonical.{Contracts};
 ghost use Rattle.ep_theory.specs.Kripke.{Kripke};
 ghost use Rattle.ep_trial.specs.TrialText.{trial_text};
+ghost use Rattle.ep_planning.specs.Asked.{KeepsBut};
 ghost use Rattle.ep_planning.specs.Planning.{Guided};
 ghost use Rattle.ep_planning.specs.Planning.{HasItsActions};
 ghost use Rattle.ep_planning.specs.Trials.{IsTrial, TrialEnds, Tries, trial_bounds};
 ghost use Rattle.ep_reading.specs.Served.{TaskRead, answers};
-ghost use Rattle.ep_reading.specs.Steps.{Tells};
+ghost use Rattle.ep_reading.specs.Steps.{EndsBy};
 
 use crate::plan::{print_answer, search_plan};
 use ep_answer::{Answer, Stop, Trial, TrialEnd};
@@ -70,7 +71,8 @@ fn try_task(
     guide: &mut Box<dyn Guide>,
 ) -> Result<Trial, OutOfMemory>
     requires { children ≤ 8 }
-    ensures { IfOk result (IsTrial children task.now) }
+    ensures trial { IfOk result (IsTrial children task.now) }
+    ensures grows { asked guide.old ≤ asked guide.new }
 {
     task.known();
     let contracted = count_contracted(alloc, task)?;
@@ -91,7 +93,8 @@ fn try_task(
 
 fn run_trial(alloc: Global, children: u32, guide: &mut Box<dyn Guide>) -> Result<Answer, Stop>
     requires { children ≤ 8 }
-    ensures { Tells (TaskRead (trial_text children) (Tries children)) result }
+    ensures answer { EndsBy (TaskRead (trial_text children) (Tries children)) result }
+    ensures grows { asked guide.old ≤ asked guide.new }
 {
     let text = trial_text(alloc, children)?;
     let task = read_task(alloc, text.as_slice())?;
@@ -106,7 +109,8 @@ pub fn try_by_guide(
     guides: &mut Vec<Box<dyn Guide>>,
 ) -> Result<Answer, Stop>
     requires { children ≤ 8 }
-    ensures { Tells (Guided (length guides.old.items) 0 (TaskRead (trial_text children) (Tries children))) result }
+    ensures answer { EndsBy (Guided (length guides.old.items) 0 (TaskRead (trial_text children) (Tries children))) result }
+    ensures others { KeepsBut (λ g. asked g) (λ other. other ≡ 0) guides.old.items guides.new.items }
 {
     if guides.len() == 0 {
         return Ok(Answer::NoSuchGuide);

@@ -19,10 +19,10 @@ use Rattle.ep_answer.specs.declared.status.Status.TheVariants as status
 use Rattle.ep_answer.specs.declared.answer.Answer.TheVariants.{Stopped}
 use Rattle.ep_base.specs.Texts.{line}
 use Rattle.ep_reading.specs.PlanFile.{RunStops, Ran, run_size}
-use Rattle.ep_reading.specs.Served.{Outcome, Answers, answers}
+use Rattle.ep_reading.specs.Served.{Ending, Answers, answers}
 use Rattle.ep_question.specs.Questions.{ShowsContraction, Contractions}
 
-pub one_text : (g : GroundTask) (S : Kripke) (x y : Outcome) → ShowsContraction g S x → ShowsContraction g S y → x ≡ y
+pub one_text : (g : GroundTask) (S : Kripke) (x y : Ending) → ShowsContraction g S x → ShowsContraction g S y → x ≡ y
 unfolding ShowsContraction
 one_text g S x y h k =
     h.2 ∙ ap (λ (C : Kripke). Answers status.Ok (state_text g C ++ line (codes "bytes " ++ encode_lower (bytes_of C)))) (one_contraction S h.0 k.0 h.1 k.1) ∙ sym k.2
@@ -58,15 +58,15 @@ never_after (stop.SpentWorlds k n) S e = cc
 never_after (stop.SpentLinks k n) S e = cc
 
 -- a run goes on in one way, if what it leaves has one answer
-module _ (whose : Whose) (g : GroundTask) (plan : List ActionId) (next : Kripke → Outcome → Type 0)
-    (one : (S : Kripke) (x y : Outcome) → next S x → next S y → x ≡ y) where
-  Stops : Outcome → Type 0
+module _ (whose : Whose) (g : GroundTask) (plan : List ActionId) (next : Kripke → Ending → Type 0)
+    (one : (S : Kripke) (x y : Ending) → next S x → next S y → x ≡ y) where
+  Stops : Ending → Type 0
   Stops x = (s : RunStop) × RunStops g plan s × (x ≡ answers (Stopped whose s))
 
-  Leaves : Outcome → Type 0
+  Leaves : Ending → Type 0
   Leaves x = (S : Kripke) × RunUnder g.problem plan run_size (run.After S) × next S x
 
-  both : (x y : Outcome) → Stops x ⊎ Leaves x → Stops y ⊎ Leaves y → x ≡ y
+  both : (x y : Ending) → Stops x ⊎ Leaves x → Stops y ⊎ Leaves y → x ≡ y
   unfolding Stops Leaves
   both x y (inl h) (inl k) =
       let e : as_run h.0 ≡ as_run k.0 = one_outcome g.problem plan run_size (as_run h.0) (as_run k.0) (stops_so g plan h.0 h.1) (stops_so g plan k.0 k.1) in
@@ -79,9 +79,9 @@ module _ (whose : Whose) (g : GroundTask) (plan : List ActionId) (next : Kripke 
       let same : h.0 ≡ k.0 = cc in
       one k.0 x y (subst (λ (S : Kripke). next S x) same h.2) k.2
 
-  pub one_answer : (x y : Outcome) → Ran whose g plan next x → Ran whose g plan next y → x ≡ y
+  pub one_answer : (x y : Ending) → Ran whose g plan next x → Ran whose g plan next y → x ≡ y
   unfolding Ran Stops Leaves
   one_answer x y h k = both x y h k
 
-pub one_contract : (g : GroundTask) (plan : List ActionId) (x y : Outcome) → Contractions g plan x → Contractions g plan y → x ≡ y
+pub one_contract : (g : GroundTask) (plan : List ActionId) (x y : Ending) → Contractions g plan x → Contractions g plan y → x ≡ y
 one_contract g plan x y h k = one_answer Only g plan (ShowsContraction g) (one_text g) x y h k

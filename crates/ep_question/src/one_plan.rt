@@ -1,5 +1,5 @@
 // The commands with a task and one plan.
-ghost use Rattle.std.specs.Prelude.{◌≡◌, ◌<◌, ◌≤◌, All, count_by, length, string_bytes, IfOk};
+ghost use Rattle.std.specs.Prelude.{◌≡◌, ◌<◌, ◌≤◌, ◌∷◌, All, count_by, length, string_bytes, IfOk};
 ghost use Rattle.ep_canon.specs.declared.limits.TheConstants.{MOST_CONTRACTED_WORLDS};
 ghost use Rattle.hex.specs.Hex.{encode_lower};
 ghost use Rattle.ep_lex.specs.declared.limits.TheConstants.{MOST_TOKENS};
@@ -12,9 +12,10 @@ ghost use Rattle.ep_question.specs.Questions.{PlanWork};
 ghost use Rattle.ep_reading.specs.PlanFile.{PlanFile};
 ghost use Rattle.ep_reading.specs.PlanFile.{AreItsActions};
 ghost use Rattle.ep_question.specs.Questions.{Asks, Contractions, Evals, Evaluates, Shows, ShowsContraction, States, Validates};
+ghost use Rattle.ep_reading.specs.Fetches.{Fetches, plan_files};
 ghost use Rattle.ep_reading.specs.Run.{GoesOn};
 ghost use Rattle.ep_reading.specs.Served.{answers};
-ghost use Rattle.ep_reading.specs.Steps.{OnlyPlan, Serves, Tells};
+ghost use Rattle.ep_reading.specs.Steps.{OnlyPlan, Serves, EndsBy};
 ghost use Rattle.ep_question.specs.Questions.{TaskAndPlan};
 ghost use Rattle.ep_answer.specs.declared.cause.Subject.TheVariants.{Plan as OfPlan};
 
@@ -60,7 +61,7 @@ fn evaluate(alloc: Global, state: &State, formula: &Formula) -> Result<Answer, O
 fn answer_eval(alloc: Global, task: &Task, plan: &Plan, word: &str) -> Result<Answer, Stop>
     requires length { length plan.now ≤ MOST_TOKENS }
     requires actions { AreItsActions task.now plan.now }
-    ensures { Tells (Evals word.now task.now plan.now) result }
+    ensures { EndsBy (Evals word.now task.now plan.now) result }
 {
     let formula = read_formula_word(alloc, task, word)?;
     let state = run_to_end(alloc, task, Whose::Only, plan)?;
@@ -73,7 +74,7 @@ fn answer_eval(alloc: Global, task: &Task, plan: &Plan, word: &str) -> Result<An
 fn answer_state(alloc: Global, task: &Task, plan: &Plan) -> Result<Answer, Stop>
     requires length { length plan.now ≤ MOST_TOKENS }
     requires actions { AreItsActions task.now plan.now }
-    ensures { Tells (States task.now plan.now) result }
+    ensures { EndsBy (States task.now plan.now) result }
 {
     let state = run_to_end(alloc, task, Whose::Only, plan)?;
     let text = print_state(alloc, task, &state)?;
@@ -112,7 +113,7 @@ fn print_contraction(alloc: Global, task: &Task, state: &State) -> Result<Answer
 fn answer_contract(alloc: Global, task: &Task, plan: &Plan) -> Result<Answer, Stop>
     requires length { length plan.now ≤ MOST_TOKENS }
     requires actions { AreItsActions task.now plan.now }
-    ensures { Tells (Contractions task.now plan.now) result }
+    ensures { EndsBy (Contractions task.now plan.now) result }
 {
     let state = run_to_end(alloc, task, Whose::Only, plan)?;
     let answer = print_contraction(alloc, task, &state)?;
@@ -129,7 +130,7 @@ fn answer_on_plan(
 ) -> Result<Answer, Stop>
     requires length { length plan.now ≤ MOST_TOKENS }
     requires actions { AreItsActions task.now plan.now }
-    ensures { Tells (Asks question.entry task.now plan.now) result }
+    ensures { EndsBy (Asks question.entry task.now plan.now) result }
 {
     match question {
         Question::Validate => Ok(Answer::Judged(judge(alloc, task, plan)?)),
@@ -148,6 +149,7 @@ fn answer_on_task<L: Library>(
     question: Question,
 ) -> Result<Answer, Stop>
     ensures goes_on { GoesOn (L.library files.old) (L.library files.new) }
+    ensures fetches { Fetches (plan_files word.now) (L.library files.old) (L.library files.new) }
     ensures answer { Serves (λ held. PlanFile held OfPlan word.now task.now (Asks question.entry task.now)) (OnlyPlan OfPlan word.now) ⊥ (L.library files.old) (L.library files.new) result }
 {
     let plan = read_plan_file(alloc, files, Subject::Plan, task, word)?;
@@ -163,6 +165,7 @@ pub fn answer_question<L: Library>(
     question: Question,
 ) -> Result<Answer, Stop>
     ensures goes_on { GoesOn (L.library files.old) (L.library files.new) }
+    ensures fetches { Fetches (file.now ∷ plan_files word.now) (L.library files.old) (L.library files.new) }
     ensures answer { Serves (λ held. PlanWork held file.now word.now (Asks question.entry)) (TaskAndPlan file.now word.now) ⊥ (L.library files.old) (L.library files.new) result }
 {
     let task = read_task_file(alloc, files, file)?;

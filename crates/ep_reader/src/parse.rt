@@ -27,6 +27,7 @@ pub trait Parse<L>: Drop {
     fn begins(reader: &Reader) -> bool
         ensures { result ≡ heads starts reader.now.1 };
 
+    /// Reads a value, from the next token on.
     fn parse(reader: &mut Reader, alloc: Global) -> Result<Self, SyntaxError>
         ensures { Gives reads reader.old result reader.new };
 }

@@ -11,29 +11,29 @@ use Rattle.ep_answer.specs.declared.status.Status.{Status}
 use Rattle.ep_answer.specs.Answer.{answer_status, answer_text}
 use Rattle.ep_reading.specs.PlanFile.{PlanFile}
 use Rattle.ep_reading.specs.Run.{GoesOn, IsAnswerOf}
-use Rattle.ep_reading.specs.Served.{Outcome, Answers, TaskFile, answers}
-use Rattle.ep_reading.specs.Steps.{IsPlanWord, IsTaskFile, Serves, StopsBy, Tells, nothing_behind}
+use Rattle.ep_reading.specs.Served.{Ending, Answers, TaskFile, answers}
+use Rattle.ep_reading.specs.Steps.{IsPlanWord, IsTaskFile, Serves, StopsBy, EndsBy, nothing_behind}
 use Rattle.ep_reading.proofs.Lift.{IsAnswerOf-held, Serves-more, all_held, behind_is_answer, later, task_then}
 use Rattle.ep_reading.proofs.PlanFileLemmas.{PlanFile-weaker, plan_then}
 use Rattle.ep_reading.proofs.Told.{IsBehind}
 
 -- ---- answers, wherever they come
 
-pub serves_map : (work more : FileMap → Outcome → Type 0) (names others : Subject → List ℕ → Type 0) (one other : Type 0) (mid old new : LibraryState) (r : Result Answer Stop)
+pub serves_map : (work more : FileMap → Ending → Type 0) (names others : Subject → List ℕ → Type 0) (one other : Type 0) (mid old new : LibraryState) (r : Result Answer Stop)
     → ((status : Status) (text : List ℕ) → IsAnswerOf work names one mid new status text → IsAnswerOf more others other old new status text)
     → Serves work names one mid new r → Serves more others other old new r
 serves_map work more names others one other mid old new (Ok answer) f h = f (answer_status answer) (answer_text answer) h
 serves_map work more names others one other mid old new (Err (Told answer)) f h = f (answer_status answer) (answer_text answer) h
 serves_map work more names others one other mid old new (Err OutOfMemory) f h = h
 
-pub stops_map : (work more : Outcome → Type 0) (stop : Stop) → ((o : Outcome) → work o → more o) → StopsBy work stop → StopsBy more stop
+pub stops_map : (work more : Ending → Type 0) (stop : Stop) → ((o : Ending) → work o → more o) → StopsBy work stop → StopsBy more stop
 stops_map work more (Told answer) f h = f (answers answer) h
 stops_map work more OutOfMemory f h = h
 
 -- what is told without a fetch
-pub tells_is_served : (work : Outcome → Type 0) (names : Subject → List ℕ → Type 0) (old new : LibraryState) (r : Result Answer Stop)
+pub tells_is_served : (work : Ending → Type 0) (names : Subject → List ℕ → Type 0) (old new : LibraryState) (r : Result Answer Stop)
     → ((status : Status) (text : List ℕ) → work (Answers status text) → IsBehind status text)
-    → Tells work r → Serves (λ files. work) names ⊥ old new r
+    → EndsBy work r → Serves (λ files. work) names ⊥ old new r
 tells_is_served work names old new (Ok answer) b h =
     behind_is_answer (λ files. work) names old new (answer_status answer) (answer_text answer) (b (answer_status answer) (answer_text answer) h) (all_held old.held (λ files. h))
 tells_is_served work names old new (Err (Told answer)) b h =
@@ -42,7 +42,7 @@ tells_is_served work names old new (Err OutOfMemory) b h = h
 
 -- ---- behind a task
 
-pub behind_task : (old mid new : LibraryState) (file : List ℕ) (g : GroundTask) (P : FileMap → GroundTask → Outcome → Type 0) (names others : Subject → List ℕ → Type 0) (r : Result Answer Stop)
+pub behind_task : (old mid new : LibraryState) (file : List ℕ) (g : GroundTask) (P : FileMap → GroundTask → Ending → Type 0) (names others : Subject → List ℕ → Type 0) (r : Result Answer Stop)
     → IsTaskFile old file g → GoesOn old mid → ((s : Subject) (name : List ℕ) → names s name → others s name)
     → Serves (λ files. P files g) names ⊥ mid new r → Serves (λ files. TaskFile files file (P files)) others ⊥ old new r
 behind_task old mid new file g P names others r t on f h =
@@ -52,7 +52,7 @@ behind_task old mid new file g P names others r t on f h =
 
 -- ---- behind a plan
 
-pub stops_at_plan : (old new : LibraryState) (subject : Subject) (word : List ℕ) (g : GroundTask) (P : FileMap → List ActionId → Outcome → Type 0) (names others : Subject → List ℕ → Type 0) (stop : Stop)
+pub stops_at_plan : (old new : LibraryState) (subject : Subject) (word : List ℕ) (g : GroundTask) (P : FileMap → List ActionId → Ending → Type 0) (names others : Subject → List ℕ → Type 0) (stop : Stop)
     → ((s : Subject) (name : List ℕ) → names s name → others s name)
     → Serves (λ files. PlanFile files subject word g nothing_behind) names ⊥ old new (Err stop)
     → Serves (λ files. PlanFile files subject word g (P files)) others ⊥ old new (Err stop)
@@ -60,7 +60,7 @@ stops_at_plan old new subject word g P names others stop f h =
     Serves-more (λ files. PlanFile files subject word g nothing_behind) (λ files. PlanFile files subject word g (P files)) names others ⊥ old new (Err stop)
     (λ files o w. PlanFile-weaker files subject word g nothing_behind (P files) o (λ plan none. absurd none) w) f h
 
-pub behind_plan : (old mid new : LibraryState) (subject : Subject) (word : List ℕ) (g : GroundTask) (plan : List ActionId) (P : FileMap → List ActionId → Outcome → Type 0) (names others : Subject → List ℕ → Type 0) (r : Result Answer Stop)
+pub behind_plan : (old mid new : LibraryState) (subject : Subject) (word : List ℕ) (g : GroundTask) (plan : List ActionId) (P : FileMap → List ActionId → Ending → Type 0) (names others : Subject → List ℕ → Type 0) (r : Result Answer Stop)
     → IsPlanWord old word g plan → GoesOn old mid → ((s : Subject) (name : List ℕ) → names s name → others s name)
     → Serves (λ files. P files plan) names ⊥ mid new r → Serves (λ files. PlanFile files subject word g (P files)) others ⊥ old new r
 behind_plan old mid new subject word g plan P names others r p on f h =

@@ -1,4 +1,5 @@
 pub mod Behind
+pub mod FetchLemmas
 pub mod FormulaLemmas
 pub mod GuideLemmas
 pub mod Lift

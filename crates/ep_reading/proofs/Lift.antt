@@ -24,7 +24,7 @@ use Rattle.ep_answer.specs.declared.status.Status.{Status}
 use Rattle.ep_answer.specs.declared.status.Status.TheVariants as done
 use Rattle.ep_answer.specs.Answer.{answer_status, answer_text}
 use Rattle.ep_reading.specs.Run.{GoesOn, IsAnswerOf}
-use Rattle.ep_reading.specs.Served.{Outcome, Answers, StopsAt, Sized, Fetched, TaskRead, TaskFile, TellsCause, Grounded, answers, place_at}
+use Rattle.ep_reading.specs.Served.{Ending, Answers, StopsAt, Sized, Fetched, TaskRead, TaskFile, TellsCause, Grounded, answers, place_at}
 use Rattle.ep_reading.specs.Steps.{OnlyFile, IsFetched, IsTaskFile, StopsAtFetch, StopsAtTask, Serves, StopsAnswer, StopsBy, StopsWork, nothing_behind}
 use Rattle.ep_reading.proofs.Steps.{Fetched-weaker, TaskRead-weaker, TaskRead-behind}
 use Rattle.ep_reading.specs.Guides.{AnswerNeeds, NeedsGuide, StopNeeds}
@@ -43,9 +43,9 @@ both_map (Some x) f h k = f x h k
 -- ---- answers of more work
 
 -- what one work may end with the other may, over what the library holds
-pub IsAnswerOf-held : (work more : FileMap → Outcome → Type 0) (names others : Subject → List ℕ → Type 0) (one other : Type 0)
+pub IsAnswerOf-held : (work more : FileMap → Ending → Type 0) (names others : Subject → List ℕ → Type 0) (one other : Type 0)
     (old new : LibraryState) (status : Status) (text : List ℕ) → (one ↔ other)
-    → IfSome old.held (λ files. (o : Outcome) → work files o → more files o) → ((s : Subject) (name : List ℕ) → names s name → others s name)
+    → IfSome old.held (λ files. (o : Ending) → work files o → more files o) → ((s : Subject) (name : List ℕ) → names s name → others s name)
     → IsAnswerOf work names one old new status text → IsAnswerOf more others other old new status text
 IsAnswerOf-held work more names others one other old new status text m f g h = record {
   possible = h.possible;
@@ -70,15 +70,15 @@ pub all_held : {P : FileMap → Type 0} (held : Option FileMap) → ((files : Fi
 all_held None f = tt
 all_held (Some files) f = f files
 
-pub StopsWork-more : (work more : FileMap → Outcome → Type 0) (names others : Subject → List ℕ → Type 0) (old new : LibraryState) (stop : Stop)
-    → ((files : FileMap) (o : Outcome) → work files o → more files o) → ((s : Subject) (name : List ℕ) → names s name → others s name)
+pub StopsWork-more : (work more : FileMap → Ending → Type 0) (names others : Subject → List ℕ → Type 0) (old new : LibraryState) (stop : Stop)
+    → ((files : FileMap) (o : Ending) → work files o → more files o) → ((s : Subject) (name : List ℕ) → names s name → others s name)
     → StopsWork work names old new stop → StopsWork more others old new stop
 StopsWork-more work more names others old new (Told answer) f g h =
     IsAnswerOf-held work more names others ⊥ ⊥ old new (answer_status answer) (answer_text answer) (λ x. x, λ x. x) (all_held old.held f) g h
 StopsWork-more work more names others old new OutOfMemory f g h = h
 
 -- what is told behind the fetches is the answer
-pub behind_is_answer : (work : FileMap → Outcome → Type 0) (names : Subject → List ℕ → Type 0) (old new : LibraryState) (status : Status) (text : List ℕ)
+pub behind_is_answer : (work : FileMap → Ending → Type 0) (names : Subject → List ℕ → Type 0) (old new : LibraryState) (status : Status) (text : List ℕ)
     → IsBehind status text → IfSome old.held (λ files. work files (Answers status text)) → IsAnswerOf work names ⊥ old new status text
 behind_is_answer work names old new status text b h = record {
   possible = b.written;
@@ -113,23 +113,23 @@ module _ (status : Status) (text : List ℕ) (R : Type 0) (refused : FromRefusal
   by_cause found (fault.NotS5 (place.Action action) agent) h = refused (cause.NotS5Action action agent) tt (subst (λ c. Answers status text ≡ answers (Refused Task c)) h.1 h.2)
   by_cause found fault.OutOfMemory h = absurd h.1
 
-  by_ground : (found : Lexed) (tree : TaskTree) (P : GroundTask → Outcome → Type 0) (first : Option GroundError) → ((g : GroundTask) → P g (Answers status text) → R)
+  by_ground : (found : Lexed) (tree : TaskTree) (P : GroundTask → Ending → Type 0) (first : Option GroundError) → ((g : GroundTask) → P g (Answers status text) → R)
       → MatchOption first (P (task_of tree) (Answers status text)) (λ e. TellsCause found e (Answers status text)) → R
   by_ground found tree P None f h = f (task_of tree) h
   by_ground found tree P (Some e) f h = by_cause found e h
 
-  by_types : (found : Lexed) (tree : TaskTree) (P : GroundTask → Outcome → Type 0) (first : Option (TypeFault × ℕ)) → ((g : GroundTask) → P g (Answers status text) → R)
+  by_types : (found : Lexed) (tree : TaskTree) (P : GroundTask → Ending → Type 0) (first : Option (TypeFault × ℕ)) → ((g : GroundTask) → P g (Answers status text) → R)
       → MatchOption first (Grounded found tree P (Answers status text)) (λ fault. Answers status text ≡ answers (Refused Task (cause.Mistyped fault.0 (place_at found fault.1)))) → R
   by_types found tree P None f h = by_ground found tree P (fault_of (declarations tree) tree) f h
   by_types found tree P (Some fault) f h = refused (cause.Mistyped fault.0 (place_at found fault.1)) tt h
 
   -- the text is refused, or what stands behind the reading is told
-  pub by_reading : (bytes : List ℕ) (P : GroundTask → Outcome → Type 0) → ((g : GroundTask) → P g (Answers status text) → R) → TaskRead bytes P (Answers status text) → R
+  pub by_reading : (bytes : List ℕ) (P : GroundTask → Ending → Type 0) → ((g : GroundTask) → P g (Answers status text) → R) → TaskRead bytes P (Answers status text) → R
   unfolding TaskRead
   by_reading bytes P f (inl fault) = refused fault.cause (text_cause_behind fault.error fault.cause fault.is_cause) fault.told
   by_reading bytes P f (inr (found, tree, is, h)) = by_types found tree P (first_fault (task_uses tree)) f h
 
-pub read_is_behind : (bytes : List ℕ) (P : GroundTask → Outcome → Type 0) (status : Status) (text : List ℕ)
+pub read_is_behind : (bytes : List ℕ) (P : GroundTask → Ending → Type 0) (status : Status) (text : List ℕ)
     → ((g : GroundTask) → P g (Answers status text) → IsBehind status text)
     → TaskRead bytes P (Answers status text) → IsBehind status text
 read_is_behind bytes P status text f h = by_reading status text (IsBehind status text) (λ c b e. refusal_is_behind status text Task c b e) bytes P f h
@@ -147,7 +147,7 @@ read_needs_none bytes OutOfMemory h n = absurd n
 -- ---- the ground task of a file
 
 -- the file's bytes are these, and what is read of them is what is read of the file
-pub file_read : (held : Option FileMap) (s : Subject) (name bytes : List ℕ) (next : List ℕ → Outcome → Type 0) (o : Outcome)
+pub file_read : (held : Option FileMap) (s : Subject) (name bytes : List ℕ) (next : List ℕ → Ending → Type 0) (o : Ending)
     → (length bytes ≤ MOST_BYTES) × IfSome held (λ files. file_of files name ≡ Some bytes) → next bytes o → IfSome held (λ files. Fetched files s name next o)
 file_read held s name bytes next o fetched h =
     let M : Option (List ℕ) → Type 0 = λ f. MatchOption f (o ≡ answers (Refused s cause.NoSuchFile)) (λ b. Sized s b next o) in
@@ -168,15 +168,15 @@ stops_at_read old new file bytes (Told answer) fetched h =
 stops_at_read old new file bytes OutOfMemory fetched h = h
 
 -- the work behind the ground task of the file
-pub task_then : (library : LibraryState) (file : List ℕ) (g : GroundTask) (work : FileMap → Outcome → Type 0) (P : FileMap → GroundTask → Outcome → Type 0)
-    → IsTaskFile library file g → ((files : FileMap) (o : Outcome) → work files o → P files g o)
-    → IfSome library.held (λ files. (o : Outcome) → work files o → TaskFile files file (P files) o)
+pub task_then : (library : LibraryState) (file : List ℕ) (g : GroundTask) (work : FileMap → Ending → Type 0) (P : FileMap → GroundTask → Ending → Type 0)
+    → IsTaskFile library file g → ((files : FileMap) (o : Ending) → work files o → P files g o)
+    → IfSome library.held (λ files. (o : Ending) → work files o → TaskFile files file (P files) o)
 task_then library file g work P t f =
-    let M : FileMap → Outcome → Option (List ℕ) → Type 0 = λ files o found. MatchOption found (o ≡ answers (Refused Task cause.NoSuchFile)) (λ b. Sized Task b (λ c. TaskRead c (P files)) o) in
+    let M : FileMap → Ending → Option (List ℕ) → Type 0 = λ files o found. MatchOption found (o ≡ answers (Refused Task cause.NoSuchFile)) (λ b. Sized Task b (λ c. TaskRead c (P files)) o) in
     some_map library.held (λ files is o w. inr (subst (M files o) (sym is) (inr (t.fetched.0, TaskRead-behind t.bytes g (P files) o t.is_task (f files o w))))) t.fetched.1
 
 -- a command that stops at its task
-pub stops_at_task : (old new : LibraryState) (file : List ℕ) (P : FileMap → GroundTask → Outcome → Type 0) (names : Subject → List ℕ → Type 0) (stop : Stop)
+pub stops_at_task : (old new : LibraryState) (file : List ℕ) (P : FileMap → GroundTask → Ending → Type 0) (names : Subject → List ℕ → Type 0) (stop : Stop)
     → ((s : Subject) (name : List ℕ) → OnlyFile Task file s name → names s name)
     → StopsAtTask old new file stop → StopsWork (λ files. TaskFile files file (P files)) names old new stop
 stops_at_task old new file P names stop f h =
@@ -185,7 +185,7 @@ stops_at_task old new file P names stop f h =
     f h
 
 -- a command that ends with an answer for its task
-pub ends_with : (old new : LibraryState) (file : List ℕ) (g : GroundTask) (P : GroundTask → Outcome → Type 0) (names : Subject → List ℕ → Type 0) (answer : Answer)
+pub ends_with : (old new : LibraryState) (file : List ℕ) (g : GroundTask) (P : GroundTask → Ending → Type 0) (names : Subject → List ℕ → Type 0) (answer : Answer)
     → IsTaskFile old file g → P g (answers answer) → IsBehind (answer_status answer) (answer_text answer)
     → IsAnswerOf (λ files. TaskFile files file P) names ⊥ old new (answer_status answer) (answer_text answer)
 ends_with old new file g P names answer t h b =
@@ -198,7 +198,7 @@ less_min : (a b : ℕ) (c : ℕ) → a ≤ b → min a c ≤ min b c
 less_min a b c h = grind arith
 
 -- what the library did before is part of it
-pub later : (work : FileMap → Outcome → Type 0) (names : Subject → List ℕ → Type 0) (old mid new : LibraryState) (status : Status) (text : List ℕ)
+pub later : (work : FileMap → Ending → Type 0) (names : Subject → List ℕ → Type 0) (old mid new : LibraryState) (status : Status) (text : List ℕ)
     → GoesOn old mid → IsAnswerOf work names ⊥ mid new status text → IsAnswerOf work names ⊥ old new status text
 later work names old mid new status text on h = record {
   possible = h.possible;
@@ -216,28 +216,23 @@ later work names old mid new status text on h = record {
     },
   );
   missing = λ s e. subst IsSome on.held (h.missing s e);
-  too_long = λ s f e. taken_before old.held mid.held on.held (h.too_long s f e);
+  too_long = λ s f e. subst (λ held. IfNone held (RoseBeyond MOST_BYTES new.started new.taken)) on.held (h.too_long s f e);
 }
   where
     since_before : (a b c : ℕ) → a ≤ b → Rose b c → Rose a c
     since_before a b c l h = let m = less_min (a + 1) (b + 1) (2 ^ 64 - 1) (omega (arith, l)) in omega (arith, m, h)
 
-    taken_before : (one other : Option FileMap) → other ≡ one → IfNone other (RoseBeyond MOST_BYTES mid.taken new.taken) → IfNone one (RoseBeyond MOST_BYTES old.taken new.taken)
-    taken_before None None e k = let m = less_min (old.taken + (MOST_BYTES + 1)) (mid.taken + (MOST_BYTES + 1)) (2 ^ 64 - 1) (omega (arith, on.taken)) in omega (arith, m, k)
-    taken_before (Some f) other e k = tt
-    taken_before None (Some f) e k = cc
-
 -- ---- commands
 
-StopsAnswer-more : (work more : FileMap → Outcome → Type 0) (names others : Subject → List ℕ → Type 0) (misuse : Type 0) (old new : LibraryState) (stop : Stop)
-    → ((files : FileMap) (o : Outcome) → work files o → more files o) → ((s : Subject) (name : List ℕ) → names s name → others s name)
+StopsAnswer-more : (work more : FileMap → Ending → Type 0) (names others : Subject → List ℕ → Type 0) (misuse : Type 0) (old new : LibraryState) (stop : Stop)
+    → ((files : FileMap) (o : Ending) → work files o → more files o) → ((s : Subject) (name : List ℕ) → names s name → others s name)
     → StopsAnswer work names misuse old new stop → StopsAnswer more others misuse old new stop
 StopsAnswer-more work more names others misuse old new (Told answer) f g h =
     IsAnswerOf-held work more names others misuse misuse old new (answer_status answer) (answer_text answer) (λ x. x, λ x. x) (all_held old.held f) g h
 StopsAnswer-more work more names others misuse old new OutOfMemory f g h = h
 
-pub Serves-more : (work more : FileMap → Outcome → Type 0) (names others : Subject → List ℕ → Type 0) (misuse : Type 0) (old new : LibraryState) (r : Result Answer Stop)
-    → ((files : FileMap) (o : Outcome) → work files o → more files o) → ((s : Subject) (name : List ℕ) → names s name → others s name)
+pub Serves-more : (work more : FileMap → Ending → Type 0) (names others : Subject → List ℕ → Type 0) (misuse : Type 0) (old new : LibraryState) (r : Result Answer Stop)
+    → ((files : FileMap) (o : Ending) → work files o → more files o) → ((s : Subject) (name : List ℕ) → names s name → others s name)
     → Serves work names misuse old new r → Serves more others misuse old new r
 Serves-more work more names others misuse old new r f g h =
     MatchResult-weaker r h

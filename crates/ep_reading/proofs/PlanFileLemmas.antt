@@ -22,7 +22,7 @@ use Rattle.ep_answer.specs.declared.run_stop.Whose.{Whose}
 use Rattle.ep_answer.specs.declared.status.Status.{Status}
 use Rattle.ep_answer.specs.Answer.{answer_status, answer_text}
 use Rattle.ep_reading.specs.PlanFile.{IsPlanCause, PlanFile, PlanRead, Ran, RunStops, no_plan, run_size}
-use Rattle.ep_reading.specs.Served.{Outcome, Answers, Fetched, Sized, answers}
+use Rattle.ep_reading.specs.Served.{Ending, Answers, Fetched, Sized, answers}
 use Rattle.ep_reading.specs.Steps.{IsFetched, IsPlanFile, IsPlanWord, OnlyFile, OnlyPlan, StopsAtFetch, StopsAtPlan, StopsBy, nothing_behind}
 use Rattle.ep_reading.proofs.Lift.{StopsWork-more, all_held, behind_is_answer, file_read, some_map}
 use Rattle.ep_reading.proofs.Steps.{Fetched-weaker}
@@ -30,13 +30,13 @@ use Rattle.ep_reading.proofs.Told.{IsBehind, refusal_is_behind, stopped_is_behin
 
 -- ---- reading
 
-pub PlanRead-weaker : (subject : Subject) (g : GroundTask) (bytes : List ℕ) (P Q : List ActionId → Outcome → Type 0) (o : Outcome)
+pub PlanRead-weaker : (subject : Subject) (g : GroundTask) (bytes : List ℕ) (P Q : List ActionId → Ending → Type 0) (o : Ending)
     → ((plan : List ActionId) → P plan o → Q plan o) → PlanRead subject g bytes P o → PlanRead subject g bytes Q o
 unfolding PlanRead
 PlanRead-weaker subject g bytes P Q o f (inl fault) = inl fault
 PlanRead-weaker subject g bytes P Q o f (inr p) = inr (p.0, p.1, f p.0 p.2)
 
-pub PlanRead-behind : (subject : Subject) (g : GroundTask) (bytes : List ℕ) (plan : List ActionId) (P : List ActionId → Outcome → Type 0) (o : Outcome)
+pub PlanRead-behind : (subject : Subject) (g : GroundTask) (bytes : List ℕ) (plan : List ActionId) (P : List ActionId → Ending → Type 0) (o : Ending)
     → IsPlan g bytes plan → P plan o → PlanRead subject g bytes P o
 unfolding PlanRead
 PlanRead-behind subject g bytes plan P o is h = inr (plan, is, h)
@@ -61,7 +61,7 @@ plan_cause_is_behind s (fault.WrongCount stated listed) c status text is e = ref
 plan_cause_is_behind s (fault.WrongCost stated summed) c status text is e = refusal_is_behind status text s cause.WrongCost tt (subst (λ c. Answers status text ≡ answers (Refused s c)) is e)
 plan_cause_is_behind s fault.OutOfMemory c status text is e = absurd is
 
-pub plan_read_is_behind : (subject : Subject) (g : GroundTask) (bytes : List ℕ) (P : List ActionId → Outcome → Type 0) (status : Status) (text : List ℕ)
+pub plan_read_is_behind : (subject : Subject) (g : GroundTask) (bytes : List ℕ) (P : List ActionId → Ending → Type 0) (status : Status) (text : List ℕ)
     → ((plan : List ActionId) → P plan (Answers status text) → IsBehind status text)
     → PlanRead subject g bytes P (Answers status text) → IsBehind status text
 unfolding PlanRead
@@ -74,7 +74,7 @@ plan_read_is_behind subject g bytes P status text f (inr p) = f p.0 p.2
 pub no_dash : (word : List ℕ) (r : Bool) → r ≡ bytes_eq word no_plan → r ≡ false → word ≢ no_plan
 no_dash word r is differs e = let same : bytes_eq no_plan no_plan ≡ false = subst (λ w. bytes_eq w no_plan ≡ false) e (sym is ∙ differs) in cc
 
-pub PlanFile-weaker : (files : FileMap) (subject : Subject) (word : List ℕ) (g : GroundTask) (P Q : List ActionId → Outcome → Type 0) (o : Outcome)
+pub PlanFile-weaker : (files : FileMap) (subject : Subject) (word : List ℕ) (g : GroundTask) (P Q : List ActionId → Ending → Type 0) (o : Ending)
     → ((plan : List ActionId) → P plan o → Q plan o) → PlanFile files subject word g P o → PlanFile files subject word g Q o
 PlanFile-weaker files subject word g P Q o f (inl none) = inl (none.0, f [] none.1)
 PlanFile-weaker files subject word g P Q o f (inr p) =
@@ -96,37 +96,37 @@ stops_at_plan_read old new subject word bytes g (Told answer) not fetched h =
 stops_at_plan_read old new subject word bytes g OutOfMemory not fetched h = h
 
 -- what is known of a file by its name, and what stands behind it
-abbrev FromFile : FileMap → Subject → GroundTask → (List ActionId → Outcome → Type 0) → Outcome → Option (List ℕ) → Type 0
+abbrev FromFile : FileMap → Subject → GroundTask → (List ActionId → Ending → Type 0) → Ending → Option (List ℕ) → Type 0
 FromFile files subject g P o found = MatchOption found (o ≡ answers (Refused subject cause.NoSuchFile)) (λ b. Sized subject b (λ c. PlanRead subject g c P) o)
 
-abbrev Then : LibraryState → Subject → List ℕ → GroundTask → List ActionId → (FileMap → List ActionId → Outcome → Type 0) → Type 0
-Then library subject word g plan P = IfSome library.held (λ files. (o : Outcome) → P files plan o → PlanFile files subject word g (P files) o)
+abbrev Then : LibraryState → Subject → List ℕ → GroundTask → List ActionId → (FileMap → List ActionId → Ending → Type 0) → Type 0
+Then library subject word g plan P = IfSome library.held (λ files. (o : Ending) → P files plan o → PlanFile files subject word g (P files) o)
 
-then_by : (library : LibraryState) (subject : Subject) (word : List ℕ) (g : GroundTask) (plan : List ActionId) (P : FileMap → List ActionId → Outcome → Type 0)
+then_by : (library : LibraryState) (subject : Subject) (word : List ℕ) (g : GroundTask) (plan : List ActionId) (P : FileMap → List ActionId → Ending → Type 0)
     → ((word ≡ no_plan) × (plan ≡ [])) ⊎ ((word ≢ no_plan) × IsPlanFile library word g plan) → Then library subject word g plan P
 then_by library subject word g plan P (inl none) = all_held library.held (λ files o h. inl (none.0, subst (λ p. P files p o) none.1 h))
 then_by library subject word g plan P (inr (not, file)) =
     some_map library.held (λ files is o h. inr (not, inr (subst (FromFile files subject g (P files) o) (sym is) (inr (file.fetched.0, PlanRead-behind subject g file.bytes plan (P files) o file.is_plan h))))) file.fetched.1
 
 -- the work behind the plan of the word
-pub plan_then : (library : LibraryState) (subject : Subject) (word : List ℕ) (g : GroundTask) (plan : List ActionId) (P : FileMap → List ActionId → Outcome → Type 0)
-    → IsPlanWord library word g plan → IfSome library.held (λ files. (o : Outcome) → P files plan o → PlanFile files subject word g (P files) o)
+pub plan_then : (library : LibraryState) (subject : Subject) (word : List ℕ) (g : GroundTask) (plan : List ActionId) (P : FileMap → List ActionId → Ending → Type 0)
+    → IsPlanWord library word g plan → IfSome library.held (λ files. (o : Ending) → P files plan o → PlanFile files subject word g (P files) o)
 plan_then library subject word g plan P w = then_by library subject word g plan P w.is_plan
 
 -- ---- runs
 
-pub Ran-weaker : (whose : Whose) (g : GroundTask) (plan : List ActionId) (P Q : Kripke → Outcome → Type 0) (o : Outcome)
+pub Ran-weaker : (whose : Whose) (g : GroundTask) (plan : List ActionId) (P Q : Kripke → Ending → Type 0) (o : Ending)
     → ((S : Kripke) → P S o → Q S o) → Ran whose g plan P o → Ran whose g plan Q o
 unfolding Ran
 Ran-weaker whose g plan P Q o f (inl stop) = inl stop
 Ran-weaker whose g plan P Q o f (inr p) = inr (p.0, p.1, f p.0 p.2)
 
-pub Ran-behind : (whose : Whose) (g : GroundTask) (plan : List ActionId) (S : Kripke) (P : Kripke → Outcome → Type 0) (o : Outcome)
+pub Ran-behind : (whose : Whose) (g : GroundTask) (plan : List ActionId) (S : Kripke) (P : Kripke → Ending → Type 0) (o : Ending)
     → RunUnder g.problem plan run_size (run.After S) → P S o → Ran whose g plan P o
 unfolding Ran
 Ran-behind whose g plan S P o left h = inr (S, left, h)
 
-pub ran_is_behind : (whose : Whose) (g : GroundTask) (plan : List ActionId) (P : Kripke → Outcome → Type 0) (status : Status) (text : List ℕ)
+pub ran_is_behind : (whose : Whose) (g : GroundTask) (plan : List ActionId) (P : Kripke → Ending → Type 0) (status : Status) (text : List ℕ)
     → ((S : Kripke) → P S (Answers status text) → IsBehind status text)
     → Ran whose g plan P (Answers status text) → IsBehind status text
 unfolding Ran

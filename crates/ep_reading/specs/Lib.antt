@@ -1,3 +1,4 @@
+pub mod Fetches
 pub mod FormulaWord
 pub mod Guides
 pub mod PlanFile

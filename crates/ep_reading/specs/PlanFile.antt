@@ -19,7 +19,7 @@ use Rattle.ep_answer.specs.declared.cause.Subject.{Subject}
 use Rattle.ep_answer.specs.declared.run_stop.RunStop.{RunStop}
 use Rattle.ep_answer.specs.declared.run_stop.RunStop.TheVariants.{Stuck, SpentWorlds, SpentLinks}
 use Rattle.ep_answer.specs.declared.run_stop.Whose.{Whose}
-use Rattle.ep_reading.specs.Served.{Outcome, Fetched, answers}
+use Rattle.ep_reading.specs.Served.{Ending, Fetched, answers}
 use Rattle.ep_base.specs.Texts.{line}
 
 -- ---- plan files
@@ -36,7 +36,7 @@ IsPlanCause (fault.WrongCost stated summed) c = c ≡ cause.WrongCost
 IsPlanCause fault.OutOfMemory c = ⊥
 
 -- the bytes have a fault, which is told
-pub record TellsPlanFault (subject : Subject) (g : GroundTask) (bytes : List ℕ) (outcome : Outcome) : Type 0 where
+pub record TellsPlanFault (subject : Subject) (g : GroundTask) (bytes : List ℕ) (outcome : Ending) : Type 0 where
   pub error : PlanError
   pub fault : IsFault g bytes error
   pub cause : Cause
@@ -44,7 +44,7 @@ pub record TellsPlanFault (subject : Subject) (g : GroundTask) (bytes : List ℕ
   pub told : outcome ≡ answers (Refused subject cause)
 
 -- the plan of the bytes of a plan file of the task
-unfoldable pub PlanRead : Subject → GroundTask → List ℕ → (List ActionId → Outcome → Type 0) → Outcome → Type 0
+unfoldable pub PlanRead : Subject → GroundTask → List ℕ → (List ActionId → Ending → Type 0) → Ending → Type 0
 PlanRead subject g bytes next outcome =
     TellsPlanFault subject g bytes outcome ⊎ ((plan : List ActionId) × IsPlan g bytes plan × next plan outcome)
 
@@ -57,7 +57,7 @@ abbrev pub NamesPlan : List ℕ → List ℕ → Type 0
 NamesPlan word name = (name ≡ word) × (word ≢ no_plan)
 
 -- the plan of a word, for the task
-abbrev pub PlanFile : FileMap → Subject → List ℕ → GroundTask → (List ActionId → Outcome → Type 0) → Outcome → Type 0
+abbrev pub PlanFile : FileMap → Subject → List ℕ → GroundTask → (List ActionId → Ending → Type 0) → Ending → Type 0
 PlanFile files subject word g next outcome =
     ((word ≡ no_plan) × next [] outcome)
     ⊎ ((word ≢ no_plan) × Fetched files subject word (λ bytes. PlanRead subject g bytes next) outcome)
@@ -79,7 +79,7 @@ RunStops g plan (SpentWorlds k n) = RunUnder g.problem plan run_size (run.SpentW
 RunStops g plan (SpentLinks k n) = RunUnder g.problem plan run_size (run.SpentLinks k n)
 
 -- the state that the run leaves
-unfoldable pub Ran : Whose → GroundTask → List ActionId → (Kripke → Outcome → Type 0) → Outcome → Type 0
+unfoldable pub Ran : Whose → GroundTask → List ActionId → (Kripke → Ending → Type 0) → Ending → Type 0
 Ran whose g plan next outcome =
     ((stop : RunStop) × RunStops g plan stop × (outcome ≡ answers (Stopped whose stop)))
     ⊎ ((S : Kripke) × RunUnder g.problem plan run_size (run.After S) × next S outcome)

@@ -8,7 +8,7 @@ use Rattle.ep_answer.specs.declared.cause.Subject.TheVariants.{Formula}
 use Rattle.ep_answer.specs.declared.status.Status.{Status}
 use Rattle.ep_answer.specs.declared.status.Status.TheVariants.{ReadFault, Usage}
 use Rattle.ep_answer.specs.Answer.{answer_text}
-use Rattle.ep_reading.specs.Served.{Outcome, Answers, StopsAt}
+use Rattle.ep_reading.specs.Served.{Ending, Answers, StopsAt}
 use Rattle.ep_answer.specs.Status.{IsWritten}
 use Rattle.ep_base.specs.Counts.{Rose, RoseBeyond}
 use Rattle.ep_lex.specs.declared.limits.TheConstants.{MOST_BYTES}
@@ -25,7 +25,7 @@ IsOfFile Formula = ⊥
 IsOfFile _ = ⊤
 
 -- the library failed on this file, and nothing stood before that
-pub record IsReadFault (work : FileMap → Outcome → Type 0) (names : Subject → List ℕ → Type 0) (old new : LibraryState) (text : List ℕ) (subject : Subject) (name : List ℕ) : Type 0 where
+pub record IsReadFault (work : FileMap → Ending → Type 0) (names : Subject → List ℕ → Type 0) (old new : LibraryState) (text : List ℕ) (subject : Subject) (name : List ℕ) : Type 0 where
   pub since : Rose old.faults new.faults
   -- the file is one that the work names
   pub named : names subject name
@@ -36,12 +36,12 @@ pub record IsReadFault (work : FileMap → Outcome → Type 0) (names : Subject 
 
 -- A text goes out with this status. `work` says how the work may end over the files of a library, `names` which files it names, and
 -- `misuse` whether the words are misused, whatever the library holds.
-pub record IsAnswerOf (work : FileMap → Outcome → Type 0) (names : Subject → List ℕ → Type 0) (misuse : Type 0) (old new : LibraryState) (status : Status) (text : List ℕ) : Type 0 where
+pub record IsAnswerOf (work : FileMap → Ending → Type 0) (names : Subject → List ℕ → Type 0) (misuse : Type 0) (old new : LibraryState) (status : Status) (text : List ℕ) : Type 0 where
   pub possible : IsWritten status
   pub usage : (status ≡ Usage) ↔ misuse
   pub served : status ≢ ReadFault → IfSome old.held (λ files. work files (Answers status text))
   pub fault : status ≡ ReadFault → (subject : Subject) × (name : List ℕ) × IsReadFault work names old new text subject name
   -- only a library that tells its files can tell that one is missing
   pub missing : (subject : Subject) → text ≡ answer_text (Refused subject NoSuchFile) → IsSome old.held
-  -- one that does not tell them took more bytes than a file may have
-  pub too_long : (subject : Subject) → IsOfFile subject → text ≡ answer_text (Refused subject TooLong) → IfNone old.held (RoseBeyond MOST_BYTES old.taken new.taken)
+  -- one that does not tell them took more bytes in the last fetch than a file may have
+  pub too_long : (subject : Subject) → IsOfFile subject → text ≡ answer_text (Refused subject TooLong) → IfNone old.held (RoseBeyond MOST_BYTES new.started new.taken)

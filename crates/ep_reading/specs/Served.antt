@@ -28,22 +28,22 @@ use Rattle.ep_answer.specs.declared.status.Status.{Status}
 use Rattle.ep_answer.specs.Answer.{answer_status, answer_text}
 
 -- how the work ends: with a status and a text, or at the fetch of a file, which a fault may cut off
-pub data Outcome : Type 0 where
-  Answers : Status → List ℕ → Outcome
-  StopsAt : Subject → List ℕ → Outcome
+pub data Ending : Type 0 where
+  Answers : Status → List ℕ → Ending
+  StopsAt : Subject → List ℕ → Ending
 
-abbrev pub answers : Answer → Outcome
+abbrev pub answers : Answer → Ending
 answers answer = Answers (answer_status answer) (answer_text answer)
 
 -- ---- files
 
 -- the bytes of a file, if they are not too many
-abbrev pub Sized : Subject → List ℕ → (List ℕ → Outcome → Type 0) → Outcome → Type 0
+abbrev pub Sized : Subject → List ℕ → (List ℕ → Ending → Type 0) → Ending → Type 0
 Sized subject bytes next outcome =
     ((MOST_BYTES < length bytes) × (outcome ≡ answers (Refused subject cause.TooLong))) ⊎ ((length bytes ≤ MOST_BYTES) × next bytes outcome)
 
 -- the bytes of a file, if the library holds it
-abbrev pub Fetched : FileMap → Subject → List ℕ → (List ℕ → Outcome → Type 0) → Outcome → Type 0
+abbrev pub Fetched : FileMap → Subject → List ℕ → (List ℕ → Ending → Type 0) → Ending → Type 0
 Fetched files subject name next outcome =
     (outcome ≡ StopsAt subject name)
     ⊎ MatchOption (file_of files name) (outcome ≡ answers (Refused subject cause.NoSuchFile)) (λ bytes. Sized subject bytes next outcome)
@@ -59,7 +59,7 @@ IsTextCause (text.TooDeep token line) c = c ≡ cause.TooDeep (record { token = 
 IsTextCause text.OutOfMemory c = ⊥
 
 -- the text has a fault, which is told
-pub record TellsTextFault {A : Type 0} (kind : Grammar A) (subject : Subject) (bytes : List ℕ) (outcome : Outcome) : Type 0 where
+pub record TellsTextFault {A : Type 0} (kind : Grammar A) (subject : Subject) (bytes : List ℕ) (outcome : Ending) : Type 0 where
   pub error : TextError
   pub fault : IsTextFault kind bytes error
   pub cause : Cause
@@ -67,7 +67,7 @@ pub record TellsTextFault {A : Type 0} (kind : Grammar A) (subject : Subject) (b
   pub told : outcome ≡ answers (Refused subject cause)
 
 -- the tokens of a text with its tree, if some tree of the kind reads them
-abbrev pub Parsed : {A : Type 0} → Grammar A → Subject → List ℕ → (Lexed → A → Outcome → Type 0) → Outcome → Type 0
+abbrev pub Parsed : {A : Type 0} → Grammar A → Subject → List ℕ → (Lexed → A → Ending → Type 0) → Ending → Type 0
 Parsed {A} kind subject bytes next outcome =
     TellsTextFault kind subject bytes outcome ⊎ ((found : Lexed) × (tree : A) × IsTextOf kind bytes found tree × next found tree outcome)
 
@@ -76,8 +76,8 @@ abbrev pub place_at : Lexed → ℕ → Place
 place_at found token = record { token = token; line = line_at found token }
 
 -- what stands at the tokens of a tree, if none of them has a type fault
-abbrev pub Judged : Subject → Lexed → Uses → (Outcome → Type 0) → Outcome → Type 0
-Judged subject found uses next outcome =
+abbrev pub WellTyped : Subject → Lexed → Uses → (Ending → Type 0) → Ending → Type 0
+WellTyped subject found uses next outcome =
     MatchOption (first_fault uses) (next outcome) (λ fault. outcome ≡ answers (Refused subject (cause.Mistyped fault.0 (place_at found fault.1))))
 
 -- ---- tasks
@@ -101,19 +101,19 @@ IsCauseOf found (fault.NotS5 (place.Action action) agent) c = c ≡ cause.NotS5A
 IsCauseOf found fault.OutOfMemory c = ⊥
 
 -- the ground fault is told
-abbrev pub TellsCause : Lexed → GroundError → Outcome → Type 0
+abbrev pub TellsCause : Lexed → GroundError → Ending → Type 0
 TellsCause found error outcome = (c : Cause) × IsCauseOf found error c × (outcome ≡ answers (Refused Task c))
 
 -- the ground task of a tree, if it has no ground fault
-abbrev pub Grounded : Lexed → TaskTree → (GroundTask → Outcome → Type 0) → Outcome → Type 0
+abbrev pub Grounded : Lexed → TaskTree → (GroundTask → Ending → Type 0) → Ending → Type 0
 Grounded found tree next outcome =
     MatchOption (fault_of (declarations tree) tree) (next (task_of tree) outcome) (λ error. TellsCause found error outcome)
 
 -- the ground task of the bytes of a task
-unfoldable pub TaskRead : List ℕ → (GroundTask → Outcome → Type 0) → Outcome → Type 0
+unfoldable pub TaskRead : List ℕ → (GroundTask → Ending → Type 0) → Ending → Type 0
 TaskRead bytes next =
-    Parsed tasks Task bytes (λ found tree. Judged Task found (task_uses tree) (Grounded found tree next))
+    Parsed tasks Task bytes (λ found tree. WellTyped Task found (task_uses tree) (Grounded found tree next))
 
 -- the ground task of a file
-abbrev pub TaskFile : FileMap → List ℕ → (GroundTask → Outcome → Type 0) → Outcome → Type 0
+abbrev pub TaskFile : FileMap → List ℕ → (GroundTask → Ending → Type 0) → Ending → Type 0
 TaskFile files name next = Fetched files Task name (λ bytes. TaskRead bytes next)

@@ -30,24 +30,24 @@ use Rattle.ep_answer.specs.declared.cause.Subject.TheVariants.{Task}
 use Rattle.ep_answer.specs.Answer.{answer_status, answer_text}
 use Rattle.ep_reading.specs.FormulaWord.{ground_form}
 use Rattle.ep_reading.specs.PlanFile.{NamesPlan, PlanFile, no_plan, run_size, AreItsActions}
-use Rattle.ep_reading.specs.Served.{Outcome, Fetched, IsTextCause, TaskFile, answers}
+use Rattle.ep_reading.specs.Served.{Ending, Fetched, IsTextCause, TaskFile, answers}
 use Rattle.ep_reading.specs.Run.{IsAnswerOf}
 
 -- the work may end so, or memory is wanting
-abbrev pub StopsBy : (Outcome → Type 0) → Stop → Type 0
+abbrev pub StopsBy : (Ending → Type 0) → Stop → Type 0
 StopsBy work (Told answer) = work (answers answer)
 StopsBy work OutOfMemory = ⊤
 
 -- the work may end with what is told, at the end or before it
-abbrev pub Tells : (Outcome → Type 0) → Result Answer Stop → Type 0
-Tells work result = MatchResult result (λ answer. work (answers answer)) (StopsBy work)
+abbrev pub EndsBy : (Ending → Type 0) → Result Answer Stop → Type 0
+EndsBy work result = MatchResult result (λ answer. work (answers answer)) (StopsBy work)
 
 -- the fault of a text is told, or memory is wanting
 abbrev pub StopsAtText : TextError → Subject → Stop → Type 0
 StopsAtText error subject = StopsBy (λ outcome. (c : Cause) × IsTextCause error c × (outcome ≡ answers (Refused subject c)))
 
 -- nothing stands behind a step
-abbrev pub nothing_behind : {A : Type 0} → A → Outcome → Type 0
+abbrev pub nothing_behind : {A : Type 0} → A → Ending → Type 0
 nothing_behind value outcome = ⊥
 
 -- ---- files
@@ -60,16 +60,16 @@ abbrev pub IsFetched : LibraryState → List ℕ → List ℕ → Type 0
 IsFetched library name bytes = (length bytes ≤ MOST_BYTES) × IfSome library.held (λ files. file_of files name ≡ Some bytes)
 
 -- the work on a library ends so, or memory is wanting
-abbrev pub StopsAnswer : (FileMap → Outcome → Type 0) → (Subject → List ℕ → Type 0) → Type 0 → LibraryState → LibraryState → Stop → Type 0
+abbrev pub StopsAnswer : (FileMap → Ending → Type 0) → (Subject → List ℕ → Type 0) → Type 0 → LibraryState → LibraryState → Stop → Type 0
 StopsAnswer work names misuse old new (Told answer) = IsAnswerOf work names misuse old new (answer_status answer) (answer_text answer)
 StopsAnswer work names misuse old new OutOfMemory = ⊤
 
 -- the same where no words are misused
-abbrev pub StopsWork : (FileMap → Outcome → Type 0) → (Subject → List ℕ → Type 0) → LibraryState → LibraryState → Stop → Type 0
+abbrev pub StopsWork : (FileMap → Ending → Type 0) → (Subject → List ℕ → Type 0) → LibraryState → LibraryState → Stop → Type 0
 StopsWork work names = StopsAnswer work names ⊥
 
 -- the answer of the work, whether it comes at the end or before it
-abbrev pub Serves : (FileMap → Outcome → Type 0) → (Subject → List ℕ → Type 0) → Type 0 → LibraryState → LibraryState → Result Answer Stop → Type 0
+abbrev pub Serves : (FileMap → Ending → Type 0) → (Subject → List ℕ → Type 0) → Type 0 → LibraryState → LibraryState → Result Answer Stop → Type 0
 Serves work names misuse old new result =
     MatchResult result (λ answer. IsAnswerOf work names misuse old new (answer_status answer) (answer_text answer)) (StopsAnswer work names misuse old new)
 
@@ -112,7 +112,7 @@ abbrev pub OnlyPlan : Subject → List ℕ → Subject → List ℕ → Type 0
 OnlyPlan subject word other_subject name = (other_subject ≡ subject) × NamesPlan word name
 
 -- the plan that bytes are for a task
-pub record IsPlanOf (g : GroundTask) (bytes : List ℕ) (plan : List ActionId) : Type 0 where
+pub record IsReadPlan (g : GroundTask) (bytes : List ℕ) (plan : List ActionId) : Type 0 where
   pub is_plan : IsPlan g bytes plan
   pub its_actions : AreItsActions g plan
   pub few : length plan ≤ MOST_TOKENS

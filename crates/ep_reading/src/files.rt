@@ -1,5 +1,6 @@
 // The files that a command names.
-ghost use Rattle.std.specs.Prelude.{IfErr, MatchResult};
+ghost use Rattle.std.specs.Prelude.{[], ◌∷◌, IfErr, OnOk, MatchResult};
+ghost use Rattle.ep_reading.specs.Fetches.{Fetches, FetchesAll};
 ghost use Rattle.ep_reading.specs.Guides.{StopNeeds};
 ghost use Rattle.ep_reading.specs.Run.{GoesOn};
 ghost use Rattle.ep_reading.specs.Steps.{IsFetched, IsTaskFile, StopsAtFetch, StopsAtTask};
@@ -12,6 +13,7 @@ use ep_lex::MOST_BYTES;
 use std::alloc::Global;
 
 /// The bytes of a file.
+#[tactic(auto, using(crate::proofs::FetchLemmas::fetches_any))]
 pub fn fetch_file<L: Library>(
     alloc: Global,
     files: &mut L,
@@ -23,6 +25,8 @@ pub fn fetch_file<L: Library>(
         (λ bytes. IsFetched (L.library files.old) name.now bytes.items)
         (StopsAtFetch (L.library files.old) (L.library files.new) subject name.now) }
     ensures needs { IfErr result (λ stop. StopNeeds stop → ⊥) }
+    ensures fetches { Fetches (name.now ∷ []) (L.library files.old) (L.library files.new) }
+    ensures whole { OnOk result (FetchesAll (name.now ∷ []) (L.library files.old) (L.library files.new)) }
 {
     let mut bytes = Vec::new(alloc);
     match files.fetch(name, MOST_BYTES, &mut bytes) {
@@ -41,6 +45,8 @@ pub fn read_task_file<L: Library>(alloc: Global, files: &mut L, name: &str) -> R
         (IsTaskFile (L.library files.old) name.now)
         (StopsAtTask (L.library files.old) (L.library files.new) name.now) }
     ensures needs { IfErr result (λ stop. StopNeeds stop → ⊥) }
+    ensures fetches { Fetches (name.now ∷ []) (L.library files.old) (L.library files.new) }
+    ensures whole { OnOk result (FetchesAll (name.now ∷ []) (L.library files.old) (L.library files.new)) }
 {
     let bytes = fetch_file(alloc, files, Subject::Task, name)?;
     read_task(alloc, &bytes)

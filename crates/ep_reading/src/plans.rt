@@ -1,10 +1,11 @@
 // The plan of a word.
-ghost use Rattle.std.specs.Prelude.{◌≡◌, ◌≤◌, length, MatchOption, MatchResult};
+ghost use Rattle.std.specs.Prelude.{◌≡◌, ◌≤◌, length, MatchOption, MatchResult, OnOk};
 ghost use Rattle.ep_lex.specs.declared.limits.TheConstants.{MOST_BYTES};
 ghost use Rattle.ep_plan_text.specs.declared.read.PlanError.TheVariants as fault;
+ghost use Rattle.ep_reading.specs.Fetches.{Fetches, FetchesAll, plan_files};
 ghost use Rattle.ep_reading.specs.PlanFile.{IsPlanCause, PlanRead};
 ghost use Rattle.ep_reading.specs.Run.{GoesOn};
-ghost use Rattle.ep_reading.specs.Steps.{IsPlanOf, IsPlanWord, StopsAtPlan, StopsBy, nothing_behind};
+ghost use Rattle.ep_reading.specs.Steps.{IsReadPlan, IsPlanWord, StopsAtPlan, StopsBy, nothing_behind};
 
 use crate::files::fetch_file;
 use ep_answer::{Answer, Cause, Place, Stop, Subject};
@@ -32,7 +33,7 @@ fn cause_of(error: PlanError) -> Option<Cause>
 
 fn read_plan(alloc: Global, subject: Subject, task: &Task, bytes: &[u8]) -> Result<Plan, Stop>
     requires { length bytes.now ≤ MOST_BYTES }
-    ensures { MatchResult result (IsPlanOf task.now bytes.now)
+    ensures { MatchResult result (IsReadPlan task.now bytes.now)
         (StopsBy (PlanRead subject task.now bytes.now nothing_behind)) }
 {
     match ep_plan_text::read_plan(alloc, task, bytes) {
@@ -56,6 +57,8 @@ pub fn read_plan_file<L: Library>(
     ensures plan { MatchResult result
         (IsPlanWord (L.library files.old) word.now task.now)
         (StopsAtPlan (L.library files.old) (L.library files.new) subject word.now task.now) }
+    ensures fetches { Fetches (plan_files word.now) (L.library files.old) (L.library files.new) }
+    ensures whole { OnOk result (FetchesAll (plan_files word.now) (L.library files.old) (L.library files.new)) }
 {
     if word == "-" {
         return Ok(List::new(alloc));

@@ -8,7 +8,7 @@ ghost use Rattle.ep_tree.specs.Grammar.{tasks, IsRead};
 ghost use Rattle.ep_types.specs.Tasks.{HasNoFault, task_uses};
 ghost use Rattle.ep_ground.specs.declared.fault.GroundError.TheVariants as fault;
 ghost use Rattle.ep_answer.specs.declared.cause.Subject.TheVariants.{Task as OfTask};
-ghost use Rattle.ep_reading.specs.Served.{IsCauseOf, IsTextCause, TellsCause, Parsed, Judged, Grounded, TaskRead, place_at};
+ghost use Rattle.ep_reading.specs.Served.{IsCauseOf, IsTextCause, TellsCause, Parsed, WellTyped, Grounded, TaskRead, place_at};
 ghost use Rattle.ep_reading.specs.Steps.{IsGroundOf, IsTaskOf, StopsAtText, StopsBy, nothing_behind};
 
 use ep_answer::{Answer, Cause, Place, Stop, Subject};
@@ -66,7 +66,7 @@ fn task_text(alloc: Global, bytes: &[u8]) -> Result<ParsedText<TaskTree>, Stop>
 fn typed_task(alloc: Global, found: &TokenList, tree: TaskTree) -> Result<Typed, Stop>
     requires { IsRead tree }
     ensures { MatchResult result (λ typed. (typed ≡ tree) × HasNoFault tree)
-        (StopsBy (Judged OfTask found.now (task_uses tree) (nothing_behind tree))) }
+        (StopsBy (WellTyped OfTask found.now (task_uses tree) (nothing_behind tree))) }
 {
     match ep_types::check(alloc, tree) {
         Ok(typed) => Ok(typed),

@@ -5,6 +5,7 @@ pub mod CutLemmas
 pub mod GatherLemmas
 pub mod GroupLemmas
 pub mod ImageLemmas
+pub mod OriginalLemmas
 pub mod KeptLemmas
 pub mod KeyLemmas
 pub mod LeaveLemmas

@@ -1,4 +1,5 @@
 pub mod Numbering
+pub mod Originals
 pub mod Marking
 pub mod Columns
 pub mod Signing

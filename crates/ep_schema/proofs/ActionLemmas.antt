@@ -39,7 +39,7 @@ use Rattle.ep_universe.specs.Objects.{Binding, agents_of}
 use Rattle.ep_schema.specs.Actions.{assigns_twice, events_of, event_of as event_at}
 use Rattle.ep_schema.specs.Answers.{Refuses, IsOfBody, of_body}
 use Rattle.ep_schema.specs.Bodies.{AreBuildableEvents}
-use Rattle.ep_universe.specs.Links.{agent_count, place_of, linked, links_of, designated_of, last_pairs}
+use Rattle.ep_universe.specs.Links.{agent_count, place_of, linked, links_of, designated_numbers, last_pairs}
 use Rattle.ep_schema.specs.Parts.{AreParts}
 use Rattle.ep_universe.specs.Links.{made_links, agent_pairs}
 use Rattle.ep_schema.specs.Made.{event, event_link}
@@ -258,7 +258,7 @@ module _ (d : Declared) (b : Binding) (events : List EventTree) (designated : Li
       let all_links : table (λ a. pairs_where (has_link p.links a) (length p.events)) p.agents ≡ links_of d b names links =
       ap (table (λ a. pairs_where (has_link p.links a) (length p.events))) are.agents
       ∙ table_below (λ a. pairs_where (has_link p.links a) (length p.events)) (λ a. linked names (last_pairs d b a Same links)) (agent_count d) of_agent in
-      let ids : numbers_where (has_event p.designated) (length p.events) ≡ designated_of names designated =
+      let ids : numbers_where (has_event p.designated) (length p.events) ≡ designated_numbers names designated =
       ap (λ xs. numbers_where (has_event xs) (length p.events)) are.designated
       ∙ (λ k. numbers_where (λ e. event-named (place_of names) designated e k) (as_many k)) in
       λ k. record { events = are.events k; links = all_links k; designated = ids k }

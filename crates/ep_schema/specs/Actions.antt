@@ -17,7 +17,7 @@ use Rattle.ep_types.specs.declared.scope.Declared.{Declared}
 use Rattle.ep_universe.specs.Objects.{Binding, group_of, candidates, bound}
 use Rattle.ep_universe.specs.Atoms.{atom_at}
 use Rattle.ep_universe.specs.Formulas.{ground_of}
-use Rattle.ep_universe.specs.Links.{agent_count, designated_of, links_of}
+use Rattle.ep_universe.specs.Links.{agent_count, designated_numbers, links_of}
 
 -- the objects that are bound to the parameters of a schema, in order
 abbrev pub schema_bindings : Declared → SchemaTree → List (List ℕ)
@@ -33,7 +33,7 @@ abbrev pub events_of : Declared → Binding → List EventTree → List Name →
 events_of d b events designated links = record {
   events = map (event_of d b) events;
   links = links_of d b (event_names events) links;
-  designated = designated_of (event_names events) designated;
+  designated = designated_numbers (event_names events) designated;
 }
 
 -- the action of a body under a binding

@@ -38,7 +38,9 @@ pub fn action_of(
 {
     match body {
         BodyTree::Announce { what } => Ok(announce(alloc, universe, binding, what)?),
-        BodyTree::Private { what, group } => { Ok(private(alloc, universe, binding, what, group)?) }
+        BodyTree::Private { what, group } => {
+            Ok(tell_privately(alloc, universe, binding, what, group)?)
+        }
         BodyTree::Sense { what, group } => { Ok(sense(alloc, universe, binding, what, group)?) }
         BodyTree::Assign { guard, sets } => {
             assign(alloc, universe, binding, guard, sets.as_slice())
@@ -52,7 +54,7 @@ pub fn action_of(
                 designated: designated.as_slice(),
                 links: links.as_slice(),
             };
-            general(alloc, universe, binding, events.as_slice(), &ends)
+            build_general(alloc, universe, binding, events.as_slice(), &ends)
         }
     }
 }
@@ -70,7 +72,7 @@ fn announce(
     Action::announce(alloc, universe.agents(), f)
 }
 
-fn private(
+fn tell_privately(
     alloc: Global,
     universe: &Universe,
     binding: &[Bound],
@@ -156,7 +158,7 @@ fn assign(
 {
     let f = ground_form(alloc, universe, guard, binding)?;
     let sets = assignments(alloc, universe, binding, sets)?;
-    once(Action::assign(alloc, universe.agents(), f, sets))
+    expect_action(Action::assign(alloc, universe.agents(), f, sets))
 }
 
 fn event(
@@ -210,7 +212,7 @@ fn parts(
     })
 }
 
-fn general(
+fn build_general(
     alloc: Global,
     universe: &Universe,
     binding: &[Bound],
@@ -224,11 +226,11 @@ fn general(
 {
     universe.known();
     let parts = parts(alloc, universe, binding, events, ends)?;
-    once(Action::build(alloc, parts))
+    expect_action(Action::build(alloc, parts))
 }
 
 /// The action, where an atom set twice is the only fault.
-fn once(answer: Result<Action, ActionError>) -> Result<Action, BodyError>
+fn expect_action(answer: Result<Action, ActionError>) -> Result<Action, BodyError>
     requires { IfErr answer IsOfBody }
     ensures { result ≡ of_body answer }
 {

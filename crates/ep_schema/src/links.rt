@@ -11,7 +11,7 @@ use ep_event::EventLink;
 use ep_logic::{AgentId, EventId, List, OutOfMemory};
 use ep_name::NameTable;
 use ep_tree::{EventTree, LinkTree, Name};
-use ep_universe::links::{item_pairs, last_pairs, place_of};
+use ep_universe::links::{find_last_pairs, item_pairs, place_of};
 use ep_universe::names::copy_text;
 use ep_universe::objects::Bound;
 use ep_universe::universe::Universe;
@@ -78,7 +78,11 @@ pub fn event_links(
     let mut links = List::new(alloc);
     for n in 0..agents {
         let agent = AgentId { n };
-        let pairs = item_pairs(alloc, names, last_pairs(universe, binding, items, agent))?;
+        let pairs = item_pairs(
+            alloc,
+            names,
+            find_last_pairs(universe, binding, items, agent),
+        )?;
         push_event_links(&mut links, agent, pairs.as_slice())?;
     }
     Ok(links)

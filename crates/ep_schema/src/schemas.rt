@@ -16,14 +16,14 @@ use crate::fault::SchemaError;
 use ep_binding::{bindings, distinct_bindings, distinct_count};
 use ep_event::Action;
 use ep_logic::{List, OutOfMemory};
-use ep_name::printed;
+use ep_name::print_name;
 use ep_tree::SchemaTree;
-use ep_universe::objects::wider;
+use ep_universe::objects::widen;
 use ep_universe::universe::Universe;
 use std::alloc::Global;
 
 /// The distinct bindings, where a count comes first: 0 means that no list is made.
-fn distinct(alloc: Global, lists: &[List<u32>]) -> Result<List<List<u32>>, OutOfMemory>
+fn list_distinct(alloc: Global, lists: &[List<u32>]) -> Result<List<List<u32>>, OutOfMemory>
     requires few { length lists.now ≤ MOST_PARAMETERS }
     requires objects { All IsObjects lists.now }
     requires laminar { IsLaminar lists.now }
@@ -47,7 +47,7 @@ pub fn schema_bindings(
     universe.known();
     let candidates = universe.candidates(alloc, schema.params.as_slice())?;
     if schema.distinct {
-        distinct(alloc, candidates.as_slice())
+        list_distinct(alloc, candidates.as_slice())
     } else {
         bindings(alloc, candidates.as_slice())
     }
@@ -67,12 +67,12 @@ fn ground_action(
     ensures err { IfErr result (Reports SchemaError.OutOfMemory (atom_twice (action_name universe.now.names schema.now objects.now ∷ []) (spec.action_at universe.now.names schema.now objects.now ∷ []))) }
 {
     let names = universe.object_names();
-    let binding = wider(alloc, &[], schema.params.as_slice(), objects)?;
+    let binding = widen(alloc, &[], schema.params.as_slice(), objects)?;
     match action_of(alloc, universe, binding.as_slice(), &schema.body) {
         Ok(action) => Ok(action),
         Err(BodyError::OutOfMemory) => Err(SchemaError::OutOfMemory),
         Err(BodyError::AtomTwice) => {
-            let name = printed(alloc, &schema.name.text, names, objects)?;
+            let name = print_name(alloc, &schema.name.text, names, objects)?;
             Err(SchemaError::AtomTwice { name })
         }
     }

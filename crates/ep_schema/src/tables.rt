@@ -8,7 +8,7 @@ ghost use Rattle.ep_schema.specs.ActionNames as spec;
 
 use crate::schemas::schema_bindings;
 use ep_logic::{List, OutOfMemory, Text};
-use ep_name::{NameTable, printed};
+use ep_name::{NameTable, print_name};
 use ep_tree::SchemaTree;
 use ep_universe::names::copy_text;
 use ep_universe::universe::Universe;
@@ -28,7 +28,7 @@ fn push_names(
     let all = schema_bindings(alloc, universe, schema)?;
     for objects in all.as_slice() {
         let objects = objects.as_slice();
-        actions.push(printed(alloc, &schema.name.text, names, objects)?)?;
+        actions.push(print_name(alloc, &schema.name.text, names, objects)?)?;
     }
     Ok(())
 }

@@ -23,6 +23,7 @@ pub fn enqueue(guide: &mut Box<dyn Guide>, p: &mut Progress, met: Met) -> Result
     ensures pushed { OnOk result ((score : ℕ) × (p.new
         ≡ record p.old { frontier = placed (record { score = score; id = met.id }) p.old.frontier })) }
     ensures asked { Rose (asked guide.old) (asked guide.new) }
+    ensures grows { asked guide.old ≤ asked guide.new }
 {
     let state = p.store.get(met.id).state();
     let view = View {

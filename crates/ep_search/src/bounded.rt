@@ -44,6 +44,7 @@ pub fn search<L: Ledger>(
     ensures complete { IfOk result (Completes problem.now bounds mode) }
     ensures steps { steps.new ≤ steps.old + bounds.states * bounds.bound * length problem.now.actions }
     ensures asked { IfOk result (λ answer. WasAsked bounds.bound answer (asked guide.old) (asked guide.new)) }
+    ensures grows { asked guide.old ≤ asked guide.new }
 {
     let setting = Setting {
         bounds,
@@ -66,6 +67,7 @@ fn answer<L: Ledger>(
     ensures steps { steps.new ≤ steps.old
         + setting.now.bounds.states * setting.now.bounds.bound * length problem.now.actions }
     ensures asked { IfOk result (λ answer. WasAsked setting.now.bounds.bound answer (asked guide.old) (asked guide.new)) }
+    ensures grows { asked guide.old ≤ asked guide.new }
 {
     let unmet = count_unmet(alloc, problem.initial(), setting.parts.as_slice())?;
     if unmet == 0 {
@@ -101,6 +103,7 @@ fn start(
     ensures covers { IfOk result (CoversAll problem.now setting.now.bounds) }
     ensures fresh { IfOk result (λ p. spent setting.now.bounds.bound p.expanded.items ≡ 0) }
     ensures asked { OnOk result (1 ≤ setting.now.bounds.bound → Rose (asked guide.old) (asked guide.new)) }
+    ensures grows { asked guide.old ≤ asked guide.new }
 {
     let mut store = Store::new(alloc, setting.bounds.states);
     match store.add(canon, 0, None) {

@@ -1,5 +1,5 @@
 -- Links and designated names, of worlds and of events, as they are written.
-use Rattle.std.specs.Prelude.{ℕ, zero, suc, ◌<◌, ◌≤◌, true, List, [], ◌∷◌, ◌++◌, length, map, position, unwrap_or, if◌then◌else◌, All as Each}
+use Rattle.std.specs.Prelude.{ℕ, zero, suc, Bool, ◌<◌, ◌≤◌, true, List, [], ◌∷◌, ◌++◌, length, map, position, unwrap_or, if◌then◌else◌, All as Each}
 use Rattle.ep_binding.specs.Bindings.{IsApart}
 use Rattle.ep_lex.specs.declared.limits.TheConstants.{MOST_TOKENS}
 use Rattle.ep_logic.specs.declared.limits.TheConstants.{MOST_INITIAL_WORLDS}
@@ -22,8 +22,8 @@ abbrev pub place_of : List Text → Name → ℕ
 place_of names x = unwrap_or (position (is_text x.text) names) 0
 
 -- the designated numbers
-abbrev pub designated_of : List Text → List Name → List ℕ
-designated_of names designated = numbers_where (has_number (map (place_of names) designated)) (length names)
+abbrev pub designated_numbers : List Text → List Name → List ℕ
+designated_numbers names designated = numbers_where (has_number (map (place_of names) designated)) (length names)
 
 abbrev pub pair_of : List Text → PairTree → ℕ × ℕ
 pair_of names p = (place_of names p.from, place_of names p.to)
@@ -38,10 +38,14 @@ written_pairs names (Listed pairs) = map (pair_of names) pairs
 abbrev pub linked : List Text → PairsTree → List (ℕ × ℕ)
 linked names pairs = pairs_where (has_pair (written_pairs names pairs)) (length names)
 
--- what the last item with the agent in its group says, or else what came before
+-- what the last item says that passes, or else what came before
+abbrev pub last_said : {X A : Type 0} → (X → Bool) → (X → A) → A → List X → A
+last_said passes says before [] = before
+last_said passes says before (x ∷ xs) = last_said passes says (if passes x then says x else before) xs
+
+-- the pairs of the last item with the agent in its group, or else those that came before
 abbrev pub last_pairs : Declared → Binding → ℕ → PairsTree → List LinkTree → PairsTree
-last_pairs d b a before [] = before
-last_pairs d b a before (l ∷ ls) = last_pairs d b a (if value_at (group_of d b l.group) a then l.pairs else before) ls
+last_pairs d b a = last_said (λ (l : LinkTree). value_at (group_of d b l.group) a) (λ (l : LinkTree). l.pairs)
 
 -- the links of each agent: an agent that no item names has one from each number to itself
 abbrev pub links_of : Declared → Binding → List Text → List LinkTree → List (List (ℕ × ℕ))

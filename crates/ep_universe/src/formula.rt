@@ -8,7 +8,7 @@ ghost use Rattle.ep_universe.specs.Formulas.{ground_of, conjunction, disjunction
 ghost use Rattle.ep_universe.specs.Objects.{object_at};
 ghost use Rattle.ep_universe.specs.Sizes.{IsBuildable, AreBuildable, IsMakeable, IsRepeatable};
 
-use crate::objects::{Bound, wider};
+use crate::objects::{Bound, widen};
 use crate::universe::Universe;
 use ep_binding::bindings;
 use ep_logic::{AgentId, Agents, Formula, FormulaError, List, OutOfMemory};
@@ -95,7 +95,7 @@ fn ground_instances(
     let mut forms = List::new(alloc);
     let candidates = universe.candidates(alloc, params)?;
     for objects in bindings(alloc, candidates.as_slice())?.as_slice() {
-        let wider = wider(alloc, binding, params, objects.as_slice())?;
+        let wider = widen(alloc, binding, params, objects.as_slice())?;
         forms.push(ground_form(alloc, universe, inner, wider.as_slice())?)?;
     }
     Ok(forms)
@@ -112,7 +112,7 @@ fn negation(alloc: Global, f: Formula) -> Result<Formula, OutOfMemory>
     requires { IsMakeable (Not f) }
     ensures { IfOk result (λ g. g ≡ Not f) }
 {
-    made(Formula::not(alloc, f))
+    expect_formula(Formula::not(alloc, f))
 }
 
 fn knowledge(alloc: Global, agent: AgentId, f: Formula) -> Result<Formula, OutOfMemory>
@@ -120,7 +120,7 @@ fn knowledge(alloc: Global, agent: AgentId, f: Formula) -> Result<Formula, OutOf
     requires shape { IsMakeable (Knows agent f) }
     ensures { IfOk result (λ g. g ≡ Knows agent f) }
 {
-    made(Formula::knows(alloc, agent, f))
+    expect_formula(Formula::knows(alloc, agent, f))
 }
 
 fn common_knowledge(alloc: Global, group: Agents, f: Formula) -> Result<Formula, OutOfMemory>
@@ -128,7 +128,7 @@ fn common_knowledge(alloc: Global, group: Agents, f: Formula) -> Result<Formula,
     requires shape { IsMakeable (Common group f) }
     ensures { IfOk result (λ g. g ≡ Common group f) }
 {
-    made(Formula::common(alloc, group, f))
+    expect_formula(Formula::common(alloc, group, f))
 }
 
 fn conjunction(alloc: Global, parts: List<Formula>) -> Result<Formula, OutOfMemory>
@@ -138,8 +138,8 @@ fn conjunction(alloc: Global, parts: List<Formula>) -> Result<Formula, OutOfMemo
 {
     match parts.as_slice().len() {
         0 => Ok(Formula::truth(true)),
-        1 => only(parts),
-        _ => made(Formula::and(alloc, parts)),
+        1 => take_only(parts),
+        _ => expect_formula(Formula::and(alloc, parts)),
     }
 }
 
@@ -150,13 +150,13 @@ fn disjunction(alloc: Global, parts: List<Formula>) -> Result<Formula, OutOfMemo
 {
     match parts.as_slice().len() {
         0 => Ok(Formula::truth(false)),
-        1 => only(parts),
-        _ => made(Formula::or(alloc, parts)),
+        1 => take_only(parts),
+        _ => expect_formula(Formula::or(alloc, parts)),
     }
 }
 
 /// The one part.
-fn only(parts: List<Formula>) -> Result<Formula, OutOfMemory>
+fn take_only(parts: List<Formula>) -> Result<Formula, OutOfMemory>
     requires { length parts ≡ 1 }
     ensures { IfOk result (λ f. parts ≡ f ∷ []) }
 {
@@ -167,7 +167,7 @@ fn only(parts: List<Formula>) -> Result<Formula, OutOfMemory>
 }
 
 /// The formula, where memory alone can be wanting.
-fn made(answer: Result<Formula, FormulaError>) -> Result<Formula, OutOfMemory>
+fn expect_formula(answer: Result<Formula, FormulaError>) -> Result<Formula, OutOfMemory>
     requires { MatchResult answer (λ f. Unit {0}) (λ e. e ≡ FormulaError.OutOfMemory) }
     ensures { IfOk result (λ f. answer ≡ Ok f) }
 {

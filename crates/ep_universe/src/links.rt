@@ -89,7 +89,7 @@ fn written_pairs(
 }
 
 /// What the last item says whose group has the agent, where there is one.
-pub fn last_pairs<'a>(
+pub fn find_last_pairs<'a>(
     universe: &Universe,
     binding: &[Bound],
     links: &'a [LinkTree],

@@ -12,7 +12,7 @@ ghost use Rattle.ep_universe.specs.Universe.{AreNamesOf};
 
 use crate::atoms::GroundAtom;
 use ep_logic::{List, OutOfMemory, Text};
-use ep_name::printed;
+use ep_name::print_name;
 use ep_tree::Name;
 use ep_types::Typed;
 use std::alloc::Global;
@@ -83,7 +83,7 @@ fn atom_name(
     ensures { IfOk result (λ name. name ≡ spec.atom_name (declarations typed.now) atom.now) }
 {
     let fluent = &typed.tree().fluents.as_slice()[atom.fluent];
-    printed(alloc, &fluent.name.text, names, atom.objects.as_slice())
+    print_name(alloc, &fluent.name.text, names, atom.objects.as_slice())
 }
 
 /// The printed names of the ground atoms.

@@ -87,7 +87,7 @@ pub fn object_at(typed: &Typed, binding: &[Bound], name: &[u8]) -> u32
 }
 
 /// A binding with more parameters in force, at these objects.
-pub fn wider<'a>(
+pub fn widen<'a>(
     alloc: Global,
     binding: &[Bound<'a>],
     params: &'a [ParamTree],

@@ -1,7 +1,7 @@
 //! Printed names, and tables of them.
 
 use ep_base::{List, OutOfMemory, Text};
-use ep_name::{NameTable, printed};
+use ep_name::{NameTable, print_name};
 use std::alloc::{AllocError, Global};
 use std::process::Abort;
 use std::test::Fail;
@@ -39,7 +39,7 @@ fn names_with_objects(rt: HostRuntime) -> Result<(), Fail> {
                 .iter()
                 .all(|object| (*object as usize) < names.len())
         );
-        let found = printed(alloc, &text(alloc, name)?, names, objects)?;
+        let found = print_name(alloc, &text(alloc, name)?, names, objects)?;
         assert_eq!(rt; found.as_slice(), want.as_bytes());
     }
     Ok(())

@@ -9,7 +9,7 @@ use Rattle.ep_logic.specs.Numbers.{numbers_where, has_number, has_pair, table}
 use Rattle.ep_theory.specs.Kripke.{Kripke, IsState, links_of, successors}
 use Rattle.ep_theory.specs.Events.{EventModel}
 use Rattle.ep_theory.specs.Product.{places, place_at, links_both}
-use Rattle.ep_theory.proofs.CallerLemmas.{All-from_each, from_successors, to_has_number, from_has_number, to_has_pair, from_has_pair, is_place, from_places, from_numbers, links_within, rising_numbers}
+use Rattle.ep_theory.proofs.CallerLemmas.{All-from_each, from_successors, to_has_number, from_has_number, to_has_pair, from_has_pair, is_place, from_numbers, links_within, rising_numbers}
 use Rattle.ep_logic.proofs.CallerLemmas.{length-table, get_or-table}
 use Rattle.ep_update.specs.Places.{block, place_row, first_place, is_linked_from, AreLabelled, ArePlaces, precondition_labels, labelled_pairs}
 use Rattle.ep_update.specs.declared.places.Places.{Places}
@@ -33,10 +33,6 @@ place_in S A list i e l =
 pub successors_within : (S : Kripke) → IsState S → (a w : ℕ) (targets : List ℕ) → targets ≡ successors (links_of S a) w → (n : ℕ) → n ≡ S.worlds → AllByRecursion (λ v. v < n) targets
 successors_within S s a w targets e n m = All-from_each (λ v. v < n) targets (λ v i.
     subst (λ k. v < k) (sym m) (links_within S s a w v (from_successors w v (links_of S a) (subst (IsIn v) e i))).1)
-
--- the events of the places
-pub events_within : (S : Kripke) (A : EventModel) (list : List (ℕ × ℕ)) → list ≡ places S A → AllByRecursion (λ (at : ℕ × ℕ). at.1 < length A.events) list
-events_within S A list e = All-from_each (λ (at : ℕ × ℕ). at.1 < length A.events) list (λ p i. (from_places S A p (subst (λ xs. IsIn {A = ℕ × ℕ} p xs) e i)).event)
 
 pub block_is : (S : Kripke) (A : EventModel) (a e v from to : ℕ) (list : List (ℕ × ℕ)) → from ≡ first_place S A v → to ≡ first_place S A (suc v) → list ≡ places S A → numbers_where (is_linked_from from A a e list) to ≡ block S A a e v
 block_is S A a e v from to list f t l = rw (f, t, l) refl

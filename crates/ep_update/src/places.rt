@@ -5,6 +5,8 @@ ghost use Rattle.ep_kripke.specs.declared.limits.TheConstants.{MOST_WORLDS};
 ghost use Rattle.ep_logic.specs.Numbers.{numbers_where};
 ghost use Rattle.ep_update.specs.Places.{is_labelled, AreLabelled};
 
+use ep_event::Action;
+use ep_kripke::State;
 use ep_logic::{Bits, OutOfMemory};
 use std::alloc::Global;
 
@@ -14,6 +16,15 @@ use std::alloc::Global;
 pub(crate) struct Places {
     pub list: Vec<(u32, u32)>,
     pub firsts: Vec<u32>,
+}
+
+/// The product of a state and an action by its places, as one agent sees it.
+#[derive(Clone, Copy)]
+pub(crate) struct AgentProduct<'a> {
+    pub state: &'a State,
+    pub action: &'a Action,
+    pub agent: u32,
+    pub found: &'a Places,
 }
 
 pub(crate) fn find_places(alloc: Global, worlds: u32, rows: &[Bits]) -> Result<Places, OutOfMemory>

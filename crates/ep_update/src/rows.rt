@@ -10,7 +10,7 @@ ghost use Rattle.ep_update.specs.Places.{block, place_row, place_rows, ArePlaces
 
 use crate::blocks::{block_length, put_block};
 use crate::originals::originals_of;
-use crate::places::Places;
+use crate::places::{AgentProduct, Places};
 use ep_event::Action;
 use ep_kripke::{Naming, Relation, State};
 use ep_logic::{AgentId, EventId, List, OutOfMemory, WorldId};
@@ -29,8 +29,14 @@ pub(crate) fn relations_of(
 {
     let mut relations = List::new(alloc);
     for agent in 0..s.agents() {
+        let product = AgentProduct {
+            state: s,
+            action: a,
+            agent,
+            found,
+        };
         let originals = originals_of(alloc, s, a, agent, &found.list)?;
-        relations.push(relation_of(alloc, s, a, agent, found, &originals)?)?;
+        relations.push(relation_of(alloc, &product, &originals)?)?;
     }
     Ok(relations)
 }
@@ -38,20 +44,17 @@ pub(crate) fn relations_of(
 // Each row is made where its pair comes first, and named again at the other places.
 fn relation_of(
     alloc: Global,
-    s: &State,
-    a: &Action,
-    agent: u32,
-    found: &Places,
+    product: &AgentProduct,
     originals: &[u32],
 ) -> Result<Relation, OutOfMemory>
-    requires fits { ActionFits s.now a.now }
-    requires agent { agent < s.now.agents }
-    requires few { length (places s.now a.now) ≤ MOST_WORLDS }
-    requires places { ArePlaces s.now a.now found.now }
-    requires originals { AreOriginals s.now a.now agent originals.now }
-    ensures { IfOk result (λ rows. rows ≡ place_rows s.now a.now agent) }
+    requires fits { ActionFits product.now.state.now product.now.action.now }
+    requires agent { product.now.agent < product.now.state.now.agents }
+    requires few { length (places product.now.state.now product.now.action.now) ≤ MOST_WORLDS }
+    requires places { ArePlaces product.now.state.now product.now.action.now product.now.found.now }
+    requires originals { AreOriginals product.now.state.now product.now.action.now product.now.agent originals.now }
+    ensures { IfOk result (λ rows. rows ≡ place_rows product.now.state.now product.now.action.now product.now.agent) }
 {
-    let list = found.list.as_slice();
+    let list = product.found.list.as_slice();
     let mut naming = Naming::new(alloc, list.len() as u32)?;
     let mut row = Vec::new(alloc);
     let mut targets = Vec::new(alloc);
@@ -60,7 +63,7 @@ fn relation_of(
         if (original as usize) < i {
             naming.push_again(original)?;
         } else {
-            fill_row(&mut row, &mut targets, s, a, agent, found, i)?;
+            fill_row(&mut row, &mut targets, product, i)?;
             naming.push(&row)?;
         }
     }
@@ -72,43 +75,40 @@ fn relation_of(
 fn fill_row(
     row: &mut Vec<u32>,
     targets: &mut Vec<u32>,
-    s: &State,
-    a: &Action,
-    agent: u32,
-    found: &Places,
+    product: &AgentProduct,
     i: usize,
 ) -> Result<(), OutOfMemory>
-    requires fits { ActionFits s.now a.now }
-    requires agent { agent < s.now.agents }
-    requires place { i < length (places s.now a.now) }
-    requires places { ArePlaces s.now a.now found.now }
-    ensures { OnOk result (row.new.items ≡ place_row s.now a.now agent i) }
+    requires fits { ActionFits product.now.state.now product.now.action.now }
+    requires agent { product.now.agent < product.now.state.now.agents }
+    requires place { i < length (places product.now.state.now product.now.action.now) }
+    requires places { ArePlaces product.now.state.now product.now.action.now product.now.found.now }
+    ensures { OnOk result (row.new.items ≡ place_row product.now.state.now product.now.action.now product.now.agent i) }
 {
-    let (w, e) = found.list[i];
-    s.read_targets(AgentId { n: agent }, WorldId { n: w }, targets)?;
+    let (w, e) = product.found.list[i];
+    let agent = AgentId { n: product.agent };
+    product
+        .state
+        .read_targets(agent, WorldId { n: w }, targets)?;
     row.clear();
-    put_blocks(row, s, a, agent, e, found, targets)?;
+    put_blocks(row, product, e, targets)?;
     Ok(())
 }
 
 // Puts the places of these worlds at the end.
 fn put_blocks(
     row: &mut Vec<u32>,
-    s: &State,
-    a: &Action,
-    agent: u32,
+    product: &AgentProduct,
     e: u32,
-    found: &Places,
     worlds: &[u32],
 ) -> Result<(), OutOfMemory>
-    requires agent { agent < length a.now.links }
-    requires event { e < length a.now.events }
-    requires places { ArePlaces s.now a.now found.now }
-    requires worlds { AllByRecursion (λ v. v < s.now.worlds) worlds.now }
-    ensures { OnOk result (row.new.items ≡ row.old.items ++ flat_map (block s.now a.now agent e) worlds.now) }
+    requires agent { product.now.agent < length product.now.action.now.links }
+    requires event { e < length product.now.action.now.events }
+    requires places { ArePlaces product.now.state.now product.now.action.now product.now.found.now }
+    requires worlds { AllByRecursion (λ v. v < product.now.state.now.worlds) worlds.now }
+    ensures { OnOk result (row.new.items ≡ row.old.items ++ flat_map (block product.now.state.now product.now.action.now product.now.agent e) worlds.now) }
 {
     for v in worlds {
-        put_block(row, s, a, agent, e, found, *v)?;
+        put_block(row, product, e, *v)?;
     }
     Ok(())
 }
@@ -127,27 +127,26 @@ pub(crate) fn count_links(
 {
     let mut total = 0;
     for agent in 0..s.agents() {
+        let product = AgentProduct {
+            state: s,
+            action: a,
+            agent,
+            found,
+        };
         let originals = originals_of(alloc, s, a, agent, &found.list)?;
-        total += count_of(alloc, s, a, agent, found, &originals)?;
+        total += count_of(alloc, &product, &originals)?;
     }
     Ok(total)
 }
 
 // The number of the agent's links. A row is counted where its pair comes first.
-fn count_of(
-    alloc: Global,
-    s: &State,
-    a: &Action,
-    agent: u32,
-    found: &Places,
-    originals: &[u32],
-) -> Result<u64, OutOfMemory>
-    requires fits { ActionFits s.now a.now }
-    requires agent { agent < s.now.agents }
-    requires few { length (places s.now a.now) ≤ MOST_WORLDS }
-    requires places { ArePlaces s.now a.now found.now }
-    requires originals { AreOriginals s.now a.now agent originals.now }
-    ensures count { IfOk result (λ n. n ≡ sum_by length (place_rows s.now a.now agent)) }
+fn count_of(alloc: Global, product: &AgentProduct, originals: &[u32]) -> Result<u64, OutOfMemory>
+    requires fits { ActionFits product.now.state.now product.now.action.now }
+    requires agent { product.now.agent < product.now.state.now.agents }
+    requires few { length (places product.now.state.now product.now.action.now) ≤ MOST_WORLDS }
+    requires places { ArePlaces product.now.state.now product.now.action.now product.now.found.now }
+    requires originals { AreOriginals product.now.state.now product.now.action.now product.now.agent originals.now }
+    ensures count { IfOk result (λ n. n ≡ sum_by length (place_rows product.now.state.now product.now.action.now product.now.agent)) }
     ensures bound { IfOk result (λ n. n ≤ 65536 * 65536) }
 {
     let mut lengths = Vec::new(alloc);
@@ -158,7 +157,7 @@ fn count_of(
         let length = if original < i {
             lengths[original]
         } else {
-            row_length(&mut targets, s, a, agent, found, i)?
+            row_length(&mut targets, product, i)?
         };
         lengths.push(length)?;
         total += length;
@@ -167,39 +166,35 @@ fn count_of(
 }
 
 // How long the row of a place is.
-fn row_length(
-    targets: &mut Vec<u32>,
-    s: &State,
-    a: &Action,
-    agent: u32,
-    found: &Places,
-    i: usize,
-) -> Result<u64, OutOfMemory>
-    requires fits { ActionFits s.now a.now }
-    requires agent { agent < s.now.agents }
-    requires few { length (places s.now a.now) ≤ MOST_WORLDS }
-    requires place { i < length (places s.now a.now) }
-    requires places { ArePlaces s.now a.now found.now }
-    ensures { IfOk result (λ n. n ≡ length (place_row s.now a.now agent i)) }
+fn row_length(targets: &mut Vec<u32>, product: &AgentProduct, i: usize) -> Result<u64, OutOfMemory>
+    requires fits { ActionFits product.now.state.now product.now.action.now }
+    requires agent { product.now.agent < product.now.state.now.agents }
+    requires few { length (places product.now.state.now product.now.action.now) ≤ MOST_WORLDS }
+    requires place { i < length (places product.now.state.now product.now.action.now) }
+    requires places { ArePlaces product.now.state.now product.now.action.now product.now.found.now }
+    ensures { IfOk result (λ n. n ≡ length (place_row product.now.state.now product.now.action.now product.now.agent i)) }
 {
-    let (w, e) = found.list[i];
-    s.read_targets(AgentId { n: agent }, WorldId { n: w }, targets)?;
-    let length = count_blocks(s, a, agent, e, found, targets);
+    let (w, e) = product.found.list[i];
+    let agent = AgentId { n: product.agent };
+    product
+        .state
+        .read_targets(agent, WorldId { n: w }, targets)?;
+    let length = count_blocks(product, e, targets);
     Ok(length)
 }
 
 // How many places of these worlds there are.
-fn count_blocks(s: &State, a: &Action, agent: u32, e: u32, found: &Places, worlds: &[u32]) -> u64
-    requires agent { agent < length a.now.links }
-    requires event { e < length a.now.events }
-    requires places { ArePlaces s.now a.now found.now }
-    requires worlds { AllByRecursion (λ v. v < s.now.worlds) worlds.now }
-    requires few { length (flat_map (block s.now a.now agent e) worlds.now) < 2 ^ 64 }
-    ensures { result ≡ length (flat_map (block s.now a.now agent e) worlds.now) }
+fn count_blocks(product: &AgentProduct, e: u32, worlds: &[u32]) -> u64
+    requires agent { product.now.agent < length product.now.action.now.links }
+    requires event { e < length product.now.action.now.events }
+    requires places { ArePlaces product.now.state.now product.now.action.now product.now.found.now }
+    requires worlds { AllByRecursion (λ v. v < product.now.state.now.worlds) worlds.now }
+    requires few { length (flat_map (block product.now.state.now product.now.action.now product.now.agent e) worlds.now) < 2 ^ 64 }
+    ensures { result ≡ length (flat_map (block product.now.state.now product.now.action.now product.now.agent e) worlds.now) }
 {
     let mut total = 0;
     for v in worlds {
-        total += block_length(s, a, agent, e, found, *v);
+        total += block_length(product, e, *v);
     }
     total
 }

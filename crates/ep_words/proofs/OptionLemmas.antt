@@ -4,7 +4,7 @@ use Rattle.std.proofs.lemmas.Fmt.{decimal_injective}
 use Rattle.ep_words.specs.declared.options.PlanOption.{PlanOption}
 use Rattle.ep_words.specs.declared.options.PlanOption.TheVariants.{Depth, Cost, States, Worlds, Guide, First}
 use Rattle.ep_words.specs.declared.options.Options.{Options}
-use Rattle.ep_words.specs.Options.{Word, guide_word, option_words, IsWithin, IsNew, and_option, AreOptions, no_more, one_more}
+use Rattle.ep_words.specs.Options.{Word, guide_word, option_words, IsInRange, IsNew, and_option, AreOptions, no_more, one_more}
 
 second : {a b c d : Word} → a ∷ b ∷ [] ≡ c ∷ d ∷ [] → b ≡ d
 second e = search (rules, e)
@@ -20,7 +20,7 @@ guide_one (suc (suc n)) zero here there e = search (rules, e)
 guide_one (suc (suc n)) (suc zero) here there e = search (rules, e)
 guide_one (suc (suc n)) (suc (suc m)) here there e = omega (arith, here, there)
 
-pub option_one : (o q : PlanOption) → IsWithin o → IsWithin q → option_words o ≡ option_words q → o ≡ q
+pub option_one : (o q : PlanOption) → IsInRange o → IsInRange q → option_words o ≡ option_words q → o ≡ q
 option_one (Depth n) (Depth m) here there e = ap Depth (decimal_injective n m (omega (arith, here)) (omega (arith, there)) (second e))
 option_one (Depth n) (Cost m) here there e = search (rules, e)
 option_one (Depth n) (States m) here there e = search (rules, e)
@@ -58,13 +58,13 @@ option_one First (Worlds m) here there e = search (rules, e)
 option_one First (Guide m) here there e = search (rules, e)
 option_one First First here there e = λ _. First
 
-options_behind : (name value : Word) (rest : List Word) (os all : Options) (o : PlanOption) → option_words o ≡ name ∷ value ∷ [] → IsWithin o
+options_behind : (name value : Word) (rest : List Word) (os all : Options) (o : PlanOption) → option_words o ≡ name ∷ value ∷ [] → IsInRange o
     → AreOptions (name ∷ value ∷ rest) os all → AreOptions rest (and_option os o) all
 options_behind name value rest os all o e within (one_more q written inside new more) =
     subst (λ x. AreOptions rest (and_option os x) all) (option_one q o inside within (written ∙ sym e)) more
 
 pub read_on : (words rest : List Word) (name value : Word) (os next : Options) (o : PlanOption) (r : Option Options) → words ≡ name ∷ value ∷ rest
-    → option_words o ≡ name ∷ value ∷ [] → IsWithin o → IsNew o os → next ≡ and_option os o
+    → option_words o ≡ name ∷ value ∷ [] → IsInRange o → IsNew o os → next ≡ and_option os o
     → MatchOption r ((all : Options) → AreOptions rest next all → ⊥) (λ all. AreOptions rest next all)
     → MatchOption r ((all : Options) → AreOptions words os all → ⊥) (λ all. AreOptions words os all)
 read_on words rest name value os next o (Some all) w e within new is more =

@@ -28,13 +28,13 @@ option_words (Guide n) = codes "--guide" ∷ guide_word n ∷ []
 option_words First = codes "--first" ∷ codes "yes" ∷ []
 
 -- the value is within its limits
-abbrev pub IsWithin : PlanOption → Type 0
-IsWithin (Depth n) = n ≤ MOST_BOUND
-IsWithin (Cost n) = n ≤ MOST_BOUND
-IsWithin (States n) = (1 ≤ n) × (n ≤ MOST_STATES)
-IsWithin (Worlds n) = (1 ≤ n) × (n ≤ MOST_WORLDS)
-IsWithin (Guide n) = n ≤ 2
-IsWithin First = Unit {0}
+abbrev pub IsInRange : PlanOption → Type 0
+IsInRange (Depth n) = n ≤ MOST_BOUND
+IsInRange (Cost n) = n ≤ MOST_BOUND
+IsInRange (States n) = (1 ≤ n) × (n ≤ MOST_STATES)
+IsInRange (Worlds n) = (1 ≤ n) × (n ≤ MOST_WORLDS)
+IsInRange (Guide n) = n ≤ 2
+IsInRange First = Unit {0}
 
 abbrev pub no_options : Options
 no_options = record { bound = None; states = None; worlds = None; guide = None; mode = mode.Prove }
@@ -61,7 +61,7 @@ and_option os First = record os { mode = mode.First }
 pub data AreOptions : List Word → Options → Options → Type 0 where
   no_more : {os : Options} → AreOptions [] os os
   one_more : {name value : Word} {words : List Word} {os all : Options} (o : PlanOption)
-      → option_words o ≡ name ∷ value ∷ [] → IsWithin o → IsNew o os → AreOptions words (and_option os o) all → AreOptions (name ∷ value ∷ words) os all
+      → option_words o ≡ name ∷ value ∷ [] → IsInRange o → IsNew o os → AreOptions words (and_option os o) all → AreOptions (name ∷ value ∷ words) os all
 
 -- the measure and the bound that are given, and else 8 actions
 abbrev pub bound_of : Options → Measure × ℕ

@@ -1,7 +1,7 @@
 //! The options of `plan`.
 
 ghost use Rattle.std.specs.Prelude.{◌≡◌, ◌≢◌, ◌≤◌, ◌↔◌, ℕ, [], ◌∷◌, IsFalse, MatchOption, map, string_bytes};
-ghost use Rattle.ep_words.specs.Options.{option_words, guide_word, IsWithin, IsNew, and_option, AreOptions, no_options, plan_of};
+ghost use Rattle.ep_words.specs.Options.{option_words, guide_word, IsInRange, IsNew, and_option, AreOptions, no_options, plan_of};
 ghost use Rattle.ep_words.specs.declared.options.PlanOption.TheVariants.{Guide};
 ghost use Rattle.ep_words.specs.declared.options.PlanOption as option;
 ghost use Rattle.ep_words.specs.declared.options.Options as given;
@@ -32,7 +32,7 @@ pub struct Options {
 }
 
 fn read_guide(word: &str) -> Option<u32>
-    ensures { MatchOption result ((n : ℕ) → n ≤ 2 → word.now ≢ guide_word n) (λ n. (word.now ≡ guide_word n) × IsWithin (Guide n)) }
+    ensures { MatchOption result ((n : ℕ) → n ≤ 2 → word.now ≢ guide_word n) (λ n. (word.now ≡ guide_word n) × IsInRange (Guide n)) }
 {
     if word == "depth" {
         Some(0)
@@ -48,8 +48,8 @@ fn read_guide(word: &str) -> Option<u32>
 // The option that two words write.
 fn read_option(name: &str, value: &str) -> Option<PlanOption>
     ensures { MatchOption result
-        ((o : option.PlanOption) → IsWithin o → option_words o ≢ name.now ∷ value.now ∷ [])
-        (λ o. IsWithin o × (option_words o ≡ name.now ∷ value.now ∷ [])) }
+        ((o : option.PlanOption) → IsInRange o → option_words o ≢ name.now ∷ value.now ∷ [])
+        (λ o. IsInRange o × (option_words o ≡ name.now ∷ value.now ∷ [])) }
 {
     if name == "--depth" {
         read_number(value, 0, MOST_BOUND).map(PlanOption::Depth)

@@ -126,21 +126,31 @@ pub fn print_sentence(
     printer.write_terminal(Terminal::Semicolon)
 }
 
+/// The atoms that vary, the facts and the law.
 #[tactic(auto, using(crate::proofs::PrintedLemmas::printed))]
-fn print_lawful(
+fn print_varied(
     vary: &[AtomTree],
     facts: &Option<List<AtomTree>>,
     law: &FormulaTree,
-    sees: &[SeesTree],
-    designated: &FormulaTree,
     printer: &mut Printer,
 ) -> Result<(), OutOfMemory>
-    ensures { OnOk result (printer.new ≡ written printer.old (spell.init_items (InitTree.Lawful vary.now facts.now law.now sees.now designated.now))) }
+    ensures { OnOk result (printer.new ≡ written printer.old (fixed the.Vary ∷ (spell.braced (spell.atoms vary.now) ++ (spell.facts facts.now ++ (fixed the.Law ∷ (spell.formula law.now ++ fixed the.Semicolon ∷ [])))))) }
 {
     printer.write_terminal(Terminal::Vary)?;
     print_listed(vary, printer)?;
     print_facts(facts, printer)?;
-    print_sentence(Terminal::Law, law, printer)?;
+    print_sentence(Terminal::Law, law, printer)
+}
+
+/// Who sees what, and the formula that designates.
+#[tactic(auto, using(crate::proofs::PrintedLemmas::printed))]
+fn print_seen(
+    sees: &[SeesTree],
+    designated: &FormulaTree,
+    printer: &mut Printer,
+) -> Result<(), OutOfMemory>
+    ensures { OnOk result (printer.new ≡ written printer.old (flat_map spell.sees sees.now ++ (fixed the.Designated ∷ (spell.formula designated.now ++ fixed the.Semicolon ∷ [])))) }
+{
     print_each(sees, printer)?;
     print_sentence(Terminal::Designated, designated, printer)
 }
@@ -164,14 +174,10 @@ fn print_items(init: &InitTree, printer: &mut Printer) -> Result<(), OutOfMemory
             law,
             sees,
             designated,
-        } => print_lawful(
-            vary.as_slice(),
-            facts,
-            law,
-            sees.as_slice(),
-            designated,
-            printer,
-        ),
+        } => {
+            print_varied(vary.as_slice(), facts, law, printer)?;
+            print_seen(sees.as_slice(), designated, printer)
+        }
     }
 }
 

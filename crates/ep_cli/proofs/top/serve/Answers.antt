@@ -47,7 +47,7 @@ returns-in-Check-clause-answer g c =
 
 pub returns-in-Trial-clause-answer : goal.returns-in-Trial-clause-answer
 returns-in-Trial-clause-answer g c =
-    serves_trial (map string_bytes c.args.words.now) _ c.in-Trial.children _ c.try_by_guide.result c.args.command c.in-Trial.is c.try_by_guide.ensures
+    serves_trial (map string_bytes c.args.words.now) _ c.in-Trial.children _ c.try_by_guide.result c.args.command c.in-Trial.is c.try_by_guide.ensures.answer
 
 pub returns-in-Apart-clause-answer : goal.returns-in-Apart-clause-answer
 returns-in-Apart-clause-answer g c =

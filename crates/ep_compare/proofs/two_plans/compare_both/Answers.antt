@@ -5,7 +5,8 @@ use Rattle.ep_answer.specs.declared.cause.Subject.TheVariants.{FirstPlan, Second
 use Rattle.ep_answer.specs.declared.run_stop.Whose.TheVariants.{First, Second}
 use Rattle.ep_reading.specs.PlanFile.{PlanFile, Ran}
 use Rattle.ep_compare.specs.Comparing.{Compared}
-use Rattle.ep_reading.proofs.CallerLemmas.{behind_plan, stops_at_plan}
+use Rattle.ep_reading.specs.Fetches.{plan_files}
+use Rattle.ep_reading.proofs.CallerLemmas.{behind_plan, stops_at_plan, fetches_first, fetches_then}
 use Rattle.ep_compare.proofs.CompareLemmas.{behind_run, first_stops}
 use Rattle.ep_compare.proofs.two_plans.compare_both.Goals as goal
 
@@ -32,3 +33,12 @@ returns-clause-answer g c =
     behind_plan _ _ _ FirstPlan c.args.one.now t q (λ files p. Ran First t p (λ S. PlanFile files SecondPlan c.args.two.now t (λ q. Ran Second t q (Compared c.args.comparison c.args.task.now S)))) _ _ c.compare_with_second.result
     c.in_ok-plan.ensures.plan c.in_ok-plan.ensures.goes_on (λ s name n. inr n)
     (behind_run _ _ First t q S (λ files S. PlanFile files SecondPlan c.args.two.now t (λ q. Ran Second t q (Compared c.args.comparison c.args.task.now S))) _ c.compare_with_second.result c.in_ok-first.ensures.run c.compare_with_second.ensures.answer)
+
+pub returns-in_err-plan-clause-fetches : goal.returns-in_err-plan-clause-fetches
+returns-in_err-plan-clause-fetches g c = fetches_first (plan_files c.args.one.now) (plan_files c.args.two.now) _ _ c.read_plan_file.ensures.fetches
+
+pub returns-in_err-first-clause-fetches : goal.returns-in_err-first-clause-fetches
+returns-in_err-first-clause-fetches g c = fetches_first (plan_files c.args.one.now) (plan_files c.args.two.now) _ _ c.read_plan_file.ensures.fetches
+
+pub returns-clause-fetches : goal.returns-clause-fetches
+returns-clause-fetches g c = fetches_then (plan_files c.args.one.now) (plan_files c.args.two.now) _ _ _ c.in_ok-plan.ensures.whole c.compare_with_second.ensures.fetches

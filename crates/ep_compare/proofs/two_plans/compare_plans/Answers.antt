@@ -1,8 +1,9 @@
 -- Whether what two plans leave is bisimilar.
-use Rattle.std.proofs.Common.{inl, inr}
+use Rattle.std.proofs.Common.{inl, inr, [], ◌∷◌, ◌++◌}
 use Rattle.std.proofs.lemmas.Result.{err_from_is_err_and}
 use Rattle.ep_compare.specs.Comparing.{TwoPlans}
-use Rattle.ep_reading.proofs.CallerLemmas.{behind_task, stops_at_task}
+use Rattle.ep_reading.specs.Fetches.{plan_files}
+use Rattle.ep_reading.proofs.CallerLemmas.{behind_task, stops_at_task, fetches_first, fetches_then}
 use Rattle.ep_compare.proofs.two_plans.compare_plans.Goals as goal
 
 pub returns-in_err-task-clause-answer : goal.returns-in_err-task-clause-answer
@@ -14,3 +15,9 @@ pub returns-clause-answer : goal.returns-clause-answer
 returns-clause-answer g c =
     behind_task _ _ _ c.args.file.now c.in_ok-task.task (λ files. TwoPlans files c.args.comparison c.args.one.now c.args.two.now) _ _ c.compare_both.result
     c.in_ok-task.ensures.task c.in_ok-task.ensures.goes_on (λ s name n. inr n) c.compare_both.ensures.answer
+
+pub returns-in_err-task-clause-fetches : goal.returns-in_err-task-clause-fetches
+returns-in_err-task-clause-fetches g c = fetches_first (c.args.file.now ∷ []) (plan_files c.args.one.now ++ plan_files c.args.two.now) _ _ c.read_task_file.ensures.fetches
+
+pub returns-clause-fetches : goal.returns-clause-fetches
+returns-clause-fetches g c = fetches_then (c.args.file.now ∷ []) (plan_files c.args.one.now ++ plan_files c.args.two.now) _ _ _ c.in_ok-task.ensures.whole c.compare_both.ensures.fetches

@@ -10,8 +10,8 @@ build-requires-clause-links c = few_links c.args.universe.now.names c.args.world
 pub build-requires-clause-designated : goal.build-requires-clause-designated
 build-requires-clause-designated c = few_ids c.args.universe.now.names c.args.worlds.now c.args.ends.now.designated.now c.args.ends.now.links.now c.in_ok-parts.parts c.in_ok-parts.ensures c.requires
 
-pub made-requires : goal.made-requires
-made-requires c = memory_wanting c.args.universe.now.names c.args.worlds.now c.args.ends.now.designated.now c.args.ends.now.links.now c.in_ok-parts.parts c.in_ok-parts.ensures c.requires c.build.result c.build.ensures.err
+pub expect_state-requires : goal.expect_state-requires
+expect_state-requires c = memory_wanting c.args.universe.now.names c.args.worlds.now c.args.ends.now.designated.now c.args.ends.now.links.now c.in_ok-parts.parts c.in_ok-parts.ensures c.requires c.build.result c.build.ensures.err
 
 pub returns : goal.returns
-returns c = made_explicit c.args.universe.now.names c.args.worlds.now c.args.ends.now.designated.now c.args.ends.now.links.now c.in_ok-parts.parts c.in_ok-parts.ensures c.requires c.made.result c.build.result c.made.ensures c.build.ensures.made c.build.ensures.valid
+returns c = made_explicit c.args.universe.now.names c.args.worlds.now c.args.ends.now.designated.now c.args.ends.now.links.now c.in_ok-parts.parts c.in_ok-parts.ensures c.requires c.expect_state.result c.build.result c.expect_state.ensures c.build.ensures.made c.build.ensures.valid

@@ -8,8 +8,8 @@ use Rattle.ep_initial.specs.Meeting.{IsGroundable}
 use Rattle.ep_initial.proofs.FormLemmas.{explicit_buildable, forms_ground}
 use Rattle.ep_initial.proofs.initial.initial_state.Goals as goal
 
-pub explicit-requires : goal.explicit-requires
-explicit-requires c =
+pub build_explicit-requires : goal.build_explicit-requires
+build_explicit-requires c =
     let t = c.args.universe.now.tree in
     let known = c.tree.ensures.known in
     let e : t.init ≡ Explicit c.as_slice-in-Explicit-2.result.now c.as_slice.result.now c.as_slice-in-Explicit.result.now =
@@ -39,4 +39,4 @@ returns-in-Explicit-clause-value c =
     let t = c.args.universe.now.tree in
     let e : t.init ≡ Explicit c.as_slice-in-Explicit-2.result.now c.as_slice.result.now c.as_slice-in-Explicit.result.now =
     search (rules, c.in-Explicit.is, c.tree.ensures.tree, c.as_slice.ensures, c.as_slice-in-Explicit.ensures, c.as_slice-in-Explicit-2.ensures) in
-    subst (λ i. IfOk c.explicit.result (λ s. s ≡ initial_of c.args.universe.now.names i)) (sym e) c.explicit.ensures.value
+    subst (λ i. IfOk c.build_explicit.result (λ s. s ≡ initial_of c.args.universe.now.names i)) (sym e) c.build_explicit.ensures.value

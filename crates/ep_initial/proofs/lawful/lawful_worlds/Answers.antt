@@ -18,18 +18,18 @@ returns-in_err-varied-clause-refused c =
     handed_on (λ e. (n : ℕ) → Reports OutOfMemory (fault_by (length (varied d c.args.vary.now)) worlds n) e) c.from_residual.result c.in_err-varied.field-0.0 c.from_residual.ensures.1
     (λ n. c.in_err-varied.ensures.refused worlds n)
 
-pub kept-requires-clause-some : goal.kept-requires-clause-some
-kept-requires-clause-some c =
+pub keep_meeting-requires-clause-some : goal.keep_meeting-requires-clause-some
+keep_meeting-requires-clause-some c =
     subst (λ rows. 0 < length rows) (sym c.as_slice-2.ensures) (some_rows (length (atoms_of c.args.universe.now.names)) c.as_slice.result.now (numbers_of c.args.universe.now.names c.args.facts.now) c.in_ok-rows.rows c.in_ok-rows.ensures)
 
-pub kept-requires-clause-few : goal.kept-requires-clause-few
-kept-requires-clause-few c =
+pub keep_meeting-requires-clause-few : goal.keep_meeting-requires-clause-few
+keep_meeting-requires-clause-few c =
     subst (λ rows. length rows ≤ 4096) (sym c.as_slice-2.ensures)
     (few_rows (length (atoms_of c.args.universe.now.names)) c.as_slice.result.now (numbers_of c.args.universe.now.names c.args.facts.now) c.in_ok-rows.rows c.in_ok-rows.ensures
     (subst (λ ns. length ns ≤ 12) (sym c.as_slice.ensures) c.in_ok-varied.ensures.few))
 
-pub kept-requires-clause-long : goal.kept-requires-clause-long
-kept-requires-clause-long c =
+pub keep_meeting-requires-clause-long : goal.keep_meeting-requires-clause-long
+keep_meeting-requires-clause-long c =
     subst (AllByRecursion (λ row. length row ≡ (length (atoms_of c.args.universe.now.names)))) (sym c.as_slice-2.ensures)
     (long_rows (length (atoms_of c.args.universe.now.names)) c.as_slice.result.now (numbers_of c.args.universe.now.names c.args.facts.now) c.in_ok-rows.rows c.in_ok-rows.ensures)
 
@@ -40,4 +40,4 @@ returns-clause-long c =
     (long_rows (length (atoms_of c.args.universe.now.names)) c.as_slice.result.now (numbers_of c.args.universe.now.names c.args.facts.now) c.in_ok-rows.rows c.in_ok-rows.ensures) in
     long_ok (length (atoms_of c.args.universe.now.names)) c.in_ok-worlds.worlds
     (subst (AllByRecursion (λ row. length row ≡ (length (atoms_of c.args.universe.now.names)))) (sym c.in_ok-worlds.ensures) (long_kept (length (atoms_of c.args.universe.now.names)) (meets c.args.universe.now.names c.args.law.now) rows long))
-    c.few_worlds.result c.few_worlds.ensures.same
+    c.check_few_worlds.result c.check_few_worlds.ensures.same

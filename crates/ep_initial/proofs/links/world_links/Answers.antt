@@ -7,7 +7,7 @@ pub loop-n-preserved : goal.loop-n-preserved
 loop-n-preserved c =
     let g = agent_pairs c.args.universe.now.names [] c.args.names.now c.args.items.now in
     let a = c.loop-n.n in
-    let pairs : c.as_slice.result.now ≡ g a = c.as_slice.ensures ∙ c.in_ok-pairs.ensures ∙ ap (written_pairs c.args.names.now) c.last_pairs.ensures in
+    let pairs : c.as_slice.result.now ≡ g a = c.as_slice.ensures ∙ c.in_ok-pairs.ensures ∙ ap (written_pairs c.args.names.now) c.find_last_pairs.ensures in
     c.in_ok-push_world_links.ensures ∙ (λ i. c.loop-n.invariant i ++ map (world_link a) (pairs i)) ∙ ap (world_links g) (sym (add-one a))
 
 pub returns : goal.returns

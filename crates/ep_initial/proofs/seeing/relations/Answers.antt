@@ -8,7 +8,7 @@ use Rattle.ep_initial.proofs.seeing.relations.Goals as goal
 pub loop-n-preserved : goal.loop-n-preserved
 loop-n-preserved c =
     let f : ℕ → List (List ℕ) = λ a. alike_rows c.args.rows.now (seen c.args.universe.now.names c.args.sees.now a) in
-    let row : c.in_ok-alike_rows.field-0 ≡ f c.loop-n.n = c.in_ok-alike_rows.ensures ∙ ap (alike_rows c.args.rows.now) (c.as_slice.ensures ∙ c.in_ok-atoms.ensures) in
+    let row : c.in_ok-find_alike_rows.field-0 ≡ f c.loop-n.n = c.in_ok-find_alike_rows.ensures ∙ ap (alike_rows c.args.rows.now) (c.as_slice.ensures ∙ c.in_ok-atoms.ensures) in
     c.in_ok-push.ensures.ok ∙ (λ i. c.loop-n.invariant i ++ row i ∷ []) ∙ sym (table-more f c.loop-n.n)
 
 pub returns : goal.returns

@@ -20,8 +20,8 @@ end_trial-requires g c =
       actions = allowed_has_actions c.args.task.now (trial_bounds c.args.children) mode.Prove found c.problem.ensures.valid (omega (arith, c.requires)) c.known.ensures.actions allowed;
     }
 
-pub returns : goal.returns
-returns g c =
+pub returns-clause-trial : goal.returns-clause-trial
+returns-clause-trial g c =
     let found = c.in_ok-found.found in
     let allowed = subst (λ (T : PlanningTask). Allowed T (trial_bounds c.args.children) mode.Prove found) c.problem.ensures.value
     (subst (λ (b : Bounds). Allowed c.problem.result.now b mode.Prove found) c.bounds_of.ensures c.in_ok-found.ensures.allowed) in

@@ -2,6 +2,7 @@
 use Rattle.std.proofs.Common.{sym, subst}
 use Rattle.std.proofs.lemmas.Result.{err_from_is_err_and, MatchResult-weaker}
 use Rattle.ep_reading.specs.Steps.{IsFetched}
+use Rattle.ep_reading.proofs.FetchLemmas.{on_ok}
 use Rattle.ep_reading.proofs.GuideLemmas.{MatchResult-err}
 use Rattle.ep_reading.proofs.Lift.{read_needs_none, stops_at_fetch, stops_at_read}
 use Rattle.ep_reading.proofs.files.read_task_file.Goals as goal
@@ -25,3 +26,6 @@ returns-clause-task g c =
     MatchResult-weaker c.read_task.result c.read_task.ensures
     (λ task h. record { bytes = c.deref.result.now; fetched = fetched; is_task = h })
     (λ stop h. stops_at_read _ _ c.args.name.now c.deref.result.now stop fetched h)
+
+pub returns-clause-whole : goal.returns-clause-whole
+returns-clause-whole g c = on_ok _ c.read_task.result c.in_ok-bytes.ensures.whole

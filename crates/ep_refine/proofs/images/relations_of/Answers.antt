@@ -9,4 +9,4 @@ pub loop-a-preserved : goal.loop-a-preserved
 loop-a-preserved c =
     let inside : c.loop-a.a < length c.args.s.now.links = (let v = c.agents-a-end.ensures.value in let r = c.agents-a-end.ensures.valid.relations in let t = c.loop-a-test.true in omega (arith, v, r, t)) in
     relations_more (λ pairs. map (λ w. kept_numbers (value_at c.args.keep.now) (slice_index c.args.numbers.now) (successors pairs w)) c.args.chosen.now) c.args.s.now.links
-    c.loop-a.relations c.push.new.self c.in_ok-rows_of.field-0 c.loop-a.a inside c.loop-a.invariant c.in_ok-rows_of.ensures c.in_ok-push.ensures.ok
+    c.loop-a.relations c.push.new.self c.in_ok-relation_of.field-0 c.loop-a.a inside c.loop-a.invariant c.in_ok-relation_of.ensures c.in_ok-push.ensures.ok

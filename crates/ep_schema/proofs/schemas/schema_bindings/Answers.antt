@@ -6,8 +6,8 @@ use Rattle.ep_universe.specs.Objects.{objects_of, candidates}
 use Rattle.ep_universe.proofs.CallerLemmas.{params-are}
 use Rattle.ep_schema.proofs.schemas.schema_bindings.Goals as goal
 
-pub distinct-requires-clause-few : goal.distinct-requires-clause-few
-distinct-requires-clause-few c =
+pub list_distinct-requires-clause-few : goal.list_distinct-requires-clause-few
+list_distinct-requires-clause-few c =
     let d = c.args.universe.now.names in
     let ps = c.args.schema.now.params in
     let same : c.as_slice-then-schema.result.now ≡ candidates d ps = c.as_slice-then-schema.ensures ∙ c.in_ok-candidates.ensures.value ∙ ap (candidates d) c.as_slice.ensures in
@@ -15,12 +15,12 @@ distinct-requires-clause-few c =
     let few = c.requires in
     omega (arith, long, length-map ps (λ p. objects_of d p.kind.text), few)
 
-pub distinct-requires-clause-objects : goal.distinct-requires-clause-objects
-distinct-requires-clause-objects c =
+pub list_distinct-requires-clause-objects : goal.list_distinct-requires-clause-objects
+list_distinct-requires-clause-objects c =
     let d = c.args.universe.now.names in
     let ps = c.args.schema.now.params in
     let same : c.as_slice-then-schema.result.now ≡ candidates d ps = c.as_slice-then-schema.ensures ∙ c.in_ok-candidates.ensures.value ∙ ap (candidates d) c.as_slice.ensures in
     subst (All IsObjects) (sym same) (params-are d ps c.known.ensures.few.few_objects)
 
-pub distinct-requires-clause-laminar : goal.distinct-requires-clause-laminar
-distinct-requires-clause-laminar c = subst IsLaminar (sym c.as_slice-then-schema.ensures) c.in_ok-candidates.ensures.laminar
+pub list_distinct-requires-clause-laminar : goal.list_distinct-requires-clause-laminar
+list_distinct-requires-clause-laminar c = subst IsLaminar (sym c.as_slice-then-schema.ensures) c.in_ok-candidates.ensures.laminar

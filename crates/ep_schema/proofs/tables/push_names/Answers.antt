@@ -9,8 +9,8 @@ use Rattle.ep_universe.proofs.CallerLemmas.{AreBelow}
 use Rattle.ep_schema.proofs.CandidateLemmas.{schema-below}
 use Rattle.ep_schema.proofs.tables.push_names.Goals as goal
 
-pub printed-requires : goal.printed-requires
-printed-requires c =
+pub print_name-requires : goal.print_name-requires
+print_name-requires c =
     let d = c.args.universe.now.names in
     let bs = schema_bindings d c.args.schema.now in
     let i = c.loop-objects.objects-index in
@@ -36,7 +36,7 @@ loop-objects-preserved c =
     let long = ap length items in
     let test = c.loop-objects-test.true in
     let l : i < length bs = omega arith in
-    let name : c.in_ok-printed.field-0 ≡ action_name d s x = c.in_ok-printed.ensures ∙ ap (λ ns. printed_at s.name.text ns x) c.object_names-names.ensures.value in
+    let name : c.in_ok-print_name.field-0 ≡ action_name d s x = c.in_ok-print_name.ensures ∙ ap (λ ns. printed_at s.name.text ns x) c.object_names-names.ensures.value in
     c.in_ok-push.ensures.ok
     ∙ (λ j. c.loop-objects.invariant j ++ name j ∷ [])
     ∙ append_assoc c.args.actions.now (map (action_name d s) (take i bs)) (action_name d s x ∷ [])

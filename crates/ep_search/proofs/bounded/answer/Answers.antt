@@ -7,6 +7,7 @@ use Rattle.ep_theory.specs.Truth.{Satisfies}
 use Rattle.ep_search.specs.Conjuncts.{AreParts}
 use Rattle.ep_search.proofs.AlikeLemmas.{to_Alike}
 use Rattle.ep_search.proofs.GoalLemmas.{parts_fit, goal_at, unmet_at, unmet_here}
+use Rattle.ep_search.proofs.KeptLemmas.{grows-Kept}
 use Rattle.ep_search.proofs.StartLemmas.{least_empty, found_empty, wide_empty, asked_ok}
 use Rattle.ep_search.proofs.bounded.answer.Goals as goal
 
@@ -57,3 +58,6 @@ start-requires-clause-unmet g c =
 pub returns-clause-asked : goal.returns-clause-asked
 returns-clause-asked g c =
     asked_ok c.args.problem.now c.requires.task c.args.setting.now.bounds c.args.setting.now.mode _ _ _ c.run.result c.run.ensures.allowed c.in_ok-p.ensures.asked c.run.ensures.asked
+
+pub returns-clause-grows : goal.returns-clause-grows
+returns-clause-grows g c = grows-Kept _ _ _ c.start.ensures.grows c.run.ensures.asked

@@ -22,4 +22,4 @@ returns c =
     let items : c.as_slice.result.now ≡ t.fluents = c.as_slice.ensures ∙ ap (λ z. z.fluents) c.tree.ensures.tree in
     let here : x ≡ get_or t.fluents k x = c.index-as_slice-atom.is ∙ ap (λ z. get_or z k x) items in
     let name = fluent_named t k x (omega (arith, many_fluents t, c.requires.fluent)) here in
-    IfOk-weaker c.printed.result _ _ (λ n e. e ∙ (λ i. printed_at (sym name i) (c.requires.names i) (c.as_slice-2.ensures i))) c.printed.ensures
+    IfOk-weaker c.print_name.result _ _ (λ n e. e ∙ (λ i. printed_at (sym name i) (c.requires.names i) (c.as_slice-2.ensures i))) c.print_name.ensures

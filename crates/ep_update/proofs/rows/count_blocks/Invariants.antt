@@ -3,4 +3,4 @@ use Rattle.ep_update.specs.Places.{block}
 use Rattle.ep_update.proofs.rows.count_blocks.Given as goal
 
 abbrev pub invariant-loop-v : goal.invariant-loop-v
-invariant-loop-v l = l.total ≡ length (flat_map (block l.s l.a l.agent l.e) (take l.v-index l.worlds))
+invariant-loop-v l = l.total ≡ length (flat_map (block l.product.state.now l.product.action.now l.product.agent l.e) (take l.v-index l.worlds))

@@ -6,6 +6,6 @@ use Rattle.ep_update.proofs.rows.relation_of.Given as goal
 
 abbrev pub invariant-loop-i : goal.invariant-loop-i
 invariant-loop-i l = record {
-  worlds : l.naming.worlds ≡ length (places l.s l.a);
-  rows : l.naming.rows ≡ table (place_row l.s l.a l.agent) l.i;
+  worlds : l.naming.worlds ≡ length (places l.product.state.now l.product.action.now);
+  rows : l.naming.rows ≡ table (place_row l.product.state.now l.product.action.now l.product.agent) l.i;
 }

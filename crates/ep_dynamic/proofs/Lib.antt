@@ -1,0 +1,11 @@
+pub mod Reducing
+pub mod Composing
+pub mod Walking
+pub mod Dynamic
+pub mod SizeLemmas
+pub mod DynamicLemmas
+pub mod AheadLemmas
+pub mod BehindLemmas
+pub mod LabelLemmas
+pub mod ReducibleLemmas
+pub mod DepthLemmas

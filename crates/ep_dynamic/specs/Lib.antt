@@ -1,0 +1,9 @@
+pub mod Reduction
+pub mod Composition
+pub mod DynamicTruth
+pub mod Sizes
+pub mod DynamicFits
+pub mod Depths
+pub mod Made
+pub mod DynamicLabels
+pub mod ComposeAnswers

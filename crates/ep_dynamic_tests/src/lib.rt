@@ -1,0 +1,9 @@
+//! Tests of formulas that look ahead.
+#![tactic(auto)]
+
+#[cfg(test)]
+mod ahead;
+#[cfg(test)]
+mod formulas;
+#[cfg(test)]
+mod problems;

@@ -1,9 +1,0 @@
-use Rattle.std.proofs.Common.{◌∙◌, arith}
-use Rattle.ep_refine.proofs.ReachLemmas.{targets_within}
-use Rattle.ep_refine.proofs.images.rows_of.Goals as goal
-
-pub renumbered-requires-clause-kept : goal.renumbered-requires-clause-kept
-renumbered-requires-clause-kept c = λ k d b.
-    let within = targets_within c.args.s.now c.in_ok-read_targets.ensures.valid _ c.args.a.n c.deref.result.now (c.deref.ensures.value ∙ c.in_ok-read_targets.ensures.value) k d b in
-    let long = c.requires.kept in
-    omega (arith, within, long)

@@ -2,9 +2,13 @@
 #![tactic(auto)]
 
 pub mod compose;
+mod events;
 pub mod formula;
+mod greatest;
 pub mod laws;
+mod links;
 pub mod node;
+mod reduced;
 pub mod sizes;
 pub mod truths;
 

@@ -15,7 +15,7 @@ pub struct Size {
     pub depth: u32,
 }
 
-fn cap(nodes: u64, depth: u64) -> Size
+pub(crate) fn cap(nodes: u64, depth: u64) -> Size
     ensures { result ≡ capped nodes depth }
 {
     Size {
@@ -40,7 +40,7 @@ fn together(first: Size, second: Size) -> Size
 }
 
 // The size of the formula whose truth the atom gets by the event.
-fn value_at(a: &Action, p: AtomId, e: EventId) -> Size
+pub(crate) fn value_at(a: &Action, p: AtomId, e: EventId) -> Size
     requires { e.n < length a.now.events }
     ensures { result ≡ value_size a.now p e.n }
 {

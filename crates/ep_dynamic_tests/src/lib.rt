@@ -4,6 +4,8 @@
 #[cfg(test)]
 mod ahead;
 #[cfg(test)]
+mod composing;
+#[cfg(test)]
 mod formulas;
 #[cfg(test)]
 mod problems;

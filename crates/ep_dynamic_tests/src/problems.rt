@@ -82,7 +82,7 @@ fn coin(rt: &impl Abort, alloc: Global) -> Result<State, Fail> {
     Ok(State::build(alloc, parts)?)
 }
 
-fn peek(rt: &impl Abort, alloc: Global) -> Result<Action, OutOfMemory> {
+pub fn peek(rt: &impl Abort, alloc: Global) -> Result<Action, OutOfMemory> {
     let heads = Formula::atom(HEADS);
     let group = Agents::first(1);
     assert!(rt; !group.is_empty() && group.is_within(2));
@@ -127,7 +127,7 @@ fn check_action(rt: &impl Abort, parts: &ActionParts)
     assert!(rt; parts.designated.as_slice().len() < 1 << 32);
 }
 
-fn either(rt: &impl Abort, alloc: Global, pairs: &[(u32, u32)]) -> Result<Action, Fail> {
+pub fn either(rt: &impl Abort, alloc: Global, pairs: &[(u32, u32)]) -> Result<Action, Fail> {
     let ids = [EventId { n: 0 }, EventId { n: 1 }].to_vec(alloc)?;
     let parts = ActionParts {
         agents: 2,
